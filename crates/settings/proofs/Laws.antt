@@ -1,0 +1,143 @@
+-- Laws of the settings block: what is accepted, and what the rules bound. Assumes nothing.
+use Prim.Native.Nat.{ℕ, zero, suc, _+_, _-_, _*_, _^_, _%_, _≤_, _<_}
+use mathlib.Core.List.{List}
+use mathlib.Core.Path.{_≡_, refl, sym, _∙_, ap}
+use mathlib.Core.Logic.{_⊎_, inl, inr, ⊎-elim}
+use native.Mathlib.Omega.{arith}
+use native.Mathlib.Nat.{pow-suc, mul-le-mul, one-mul, mod-eq-of-lt}
+use native.Mathlib.Numerals.{add-one}
+use lib.Pow.{pow-mono, pow-pos, pow-lt}
+use lib.Dec.{eqb}
+use Rattle.lists.specs.Cases.{lt-or, same-or}
+use Rattle.lists.specs.Decide.{Decides}
+use Rattle.lists.proofs.Decides.{decides-eq}
+use Rattle.settings.specs.declared.Settings.{Settings}
+use Rattle.settings.specs.declared.Parsed.{Parsed}
+use Rattle.settings.specs.declared.Parsed.the-variants.{Accepted, BadBlock, BadField}
+use Rattle.settings.specs.Rules.{PowerOfTwo, SlotSize, Valid, largest}
+use Rattle.settings.specs.Decide.{valid?}
+use Rattle.settings.specs.Block.{BlockFits, blockFits?, settingsOf, fromRules, fromBlock, parse}
+
+-- ---- parsing accepts exactly the blocks that fit and whose numbers meet every rule
+
+rules-broken : (st : Settings) (d : Dec (Valid st)) → (Valid st → ⊥) → fromRules st d ≡ BadField
+unfolding fromRules
+rules-broken st (no _) h = refl
+rules-broken st (yes v) h = absurd (h v)
+
+rules-met : (st : Settings) (d : Dec (Valid st)) → Valid st → fromRules st d ≡ Accepted st
+unfolding fromRules
+rules-met st (no n) v = absurd (n v)
+rules-met st (yes _) v = refl
+
+block-broken : (block : List ℕ) (d : Dec (BlockFits block)) → (BlockFits block → ⊥) → fromBlock block d ≡ BadBlock
+unfolding fromBlock
+block-broken block (no _) h = refl
+block-broken block (yes f) h = absurd (h f)
+
+block-met : (block : List ℕ) (d : Dec (BlockFits block)) → BlockFits block → fromBlock block d ≡ fromRules (settingsOf block) (valid? (settingsOf block))
+unfolding fromBlock
+block-met block (no n) f = absurd (n f)
+block-met block (yes _) f = refl
+
+module _ (block : List ℕ) where
+  pub parse-bad-block : (BlockFits block → ⊥) → parse block ≡ BadBlock
+  unfolding parse
+  parse-bad-block h = block-broken block (blockFits? block) h
+
+  pub parse-bad-field : BlockFits block → (Valid (settingsOf block) → ⊥) → parse block ≡ BadField
+  unfolding parse
+  parse-bad-field f h = block-met block (blockFits? block) f ∙ rules-broken (settingsOf block) (valid? (settingsOf block)) h
+
+  pub parse-accepts : BlockFits block → Valid (settingsOf block) → parse block ≡ Accepted (settingsOf block)
+  unfolding parse
+  parse-accepts f v = block-met block (blockFits? block) f ∙ rules-met (settingsOf block) (valid? (settingsOf block)) v
+
+  -- and nothing else is accepted
+  pub record Accepts (st : Settings) : Type 0 where
+    pub block-fits : BlockFits block
+    pub is : st ≡ settingsOf block
+    pub valid : Valid st
+
+  from-rules : (st : Settings) → BlockFits block → (d : Dec (Valid (settingsOf block))) → fromRules (settingsOf block) d ≡ Accepted st → Accepts st
+  unfolding fromRules
+  from-rules st f (no _) e = absurd (let z : _≡_ {A = ℕ} 0 1 = cc in omega arith)
+  from-rules st f (yes v) e = let same : settingsOf block ≡ st = cc in record { block-fits = f; is = sym same; valid = rw (← same) v }
+
+  from-block : (st : Settings) (d : Dec (BlockFits block)) → fromBlock block d ≡ Accepted st → Accepts st
+  unfolding fromBlock
+  from-block st (no _) e = absurd (let z : _≡_ {A = ℕ} 0 1 = cc in omega arith)
+  from-block st (yes f) e = from-rules st f (valid? (settingsOf block)) e
+
+  pub parse-only : (st : Settings) → parse block ≡ Accepted st → Accepts st
+  unfolding parse
+  parse-only st e = from-block st (blockFits? block) e
+
+-- ---- what the rules bound
+
+pub slotSize-le : (st : Settings) → SlotSize st → (4 ≤ st .slotSize) × (st .slotSize ≤ 8)
+slotSize-le st s = ⊎-elim (λ (e : st .slotSize ≡ 4). omega arith) (λ (e : st .slotSize ≡ 8). omega arith) s
+
+-- a product of bounded numbers
+pub product-le : {m n a b : ℕ} → a ≤ m → b ≤ n → a * b ≤ m * n
+product-le h k = mul-le-mul h k
+
+pub record NoneLarger (st : Settings) : Type 0 where
+  pub globalAt : st .globalAt ≤ largest
+  pub segments : st .segments ≤ largest
+  pub headerSize : st .headerSize ≤ largest
+  pub slotSize : st .slotSize ≤ largest
+  pub slots : st .slots ≤ largest
+  pub keyBits : st .keyBits ≤ largest
+  pub chunkBits : st .chunkBits ≤ largest
+  pub lookupSize : st .lookupSize ≤ largest
+  pub freeListSize : st .freeListSize ≤ largest
+  pub innerOffset : st .innerOffset ≤ largest
+  pub chunks : st .chunks ≤ largest
+  pub chunkSize : st .chunkSize ≤ largest
+  pub tierSize : st .tierSize ≤ largest
+  pub bulkInner : st .bulkInner ≤ largest
+  pub bulkTiers : st .bulkTiers ≤ largest
+  pub bulkSize : st .bulkSize ≤ largest
+  pub mostChunks : st .mostChunks ≤ largest
+
+-- no field is larger than 16,777,216
+pub none-larger : (st : Settings) → Valid st → NoneLarger st
+none-larger st v = omega (arith, slotSize-le st (v .slotSize) .1)
+
+-- ---- the loop that doubles p until it reaches n
+
+pub record Doubling (n p : ℕ) : Type 0 where
+  pub k : ℕ
+  pub small : k ≤ 13
+  pub is : p ≡ 2 ^ k
+  pub below : (j : ℕ) → j < k → 2 ^ j < n
+
+pub doubling-starts : (n : ℕ) → Doubling n 1
+doubling-starts n = record { k = 0; small = omega arith; is = refl; below = λ j h. absurd (omega arith) }
+
+pub doubling-turns : {n p : ℕ} → Doubling n p → n ≤ 4096 → p < n → Doubling n (p * 2)
+doubling-turns {n} {p} d small h =
+    record {
+      k = suc (d .k);
+      small = ⊎-elim (λ (a : d .k < 13). omega arith) (λ (a : 13 ≤ d .k). absurd (omega (arith, pow-mono {i = 13} {j = d .k} a, d .is))) (lt-or (d .k) 13);
+      is = rw (pow-suc, d .is);
+      below = λ j a. ⊎-elim (λ (e : j ≡ d .k). rw (e, ← d .is) h) (λ e. d .below j (omega arith)) (same-or j (d .k));
+    }
+
+pub doubling-pos : {n p : ℕ} → Doubling n p → 0 < p
+doubling-pos {n} {p} d = rw (d .is) (pow-pos (d .k))
+
+pub doubling-ends : {n p : ℕ} → Doubling n p → n ≤ p → Decides (eqb p n) (PowerOfTwo n)
+doubling-ends {n} {p} d h =
+    decides-eq p n
+    (λ e. (d .k, (omega (arith, d .small), sym e ∙ d .is)))
+    (λ q.
+    ⊎-elim
+    (λ (a : q .0 < d .k). absurd (omega (arith, d .below (q .0) a, q .1 .1)))
+    (λ (a : d .k ≤ q .0). omega (arith, pow-mono a, q .1 .1, d .is))
+    (lt-or (q .0) (d .k)))
+
+-- a shift of 1 by a bit count
+pub one-shifted : (v : ℕ) → v ≤ 32 → 1 * 2 ^ v % 2 ^ 64 ≡ 2 ^ v
+one-shifted v h = rw one-mul (mod-eq-of-lt (pow-lt {i = v} {j = 64} (omega arith)))

@@ -1,0 +1,60 @@
+use Prim.Native.Nat.{_≤_, _<_, _^_}
+use mathlib.Core.Path.{_≡_}
+use Rattle.settings.proofs.Laws.{one-shifted, slotSize-le}
+use native.Mathlib.Omega.{arith}
+use borrow.Author.Needs.{needs}
+use Rattle.settings.proofs.bits_fit.Statement.{statement}
+use Rattle.settings.proofs.bits_fit.Tie as tie
+
+returns : tie.Need-returns
+returns c = search needs
+
+returns-2 : tie.Need-returns-2
+returns-2 c = search needs
+
+returns-3 : tie.Need-returns-3
+returns-3 c = search needs
+
+returns-4 : tie.Need-returns-4
+returns-4 c = search needs
+
+mul-if5 : tie.Need-mul-if5
+mul-if5 c = omega (arith, slotSize-le (c .before .before .before .before .before .before .before .before .before .args .st) (c .before .before .before .before .before .before .before .before .before .pre) .1)
+
+add-if5 : tie.Need-add-if5
+add-if5 c = search needs
+
+returns-5 : tie.Need-returns-5
+returns-5 c = search needs
+
+returns-6 : tie.Need-returns-6
+returns-6 c = search needs
+
+returns-7 : tie.Need-returns-7
+returns-7 c = search needs
+
+shl-if8 : tie.Need-shl-if8
+shl-if8 c = search needs
+
+returns-8 : tie.Need-returns-8
+returns-8 c = λ p. let h : c .before .before .before .before .before .before .before .before .before .before .before .before .before .before .before .before .before .before .args .st .chunkBits ≤ 32 = p .1 .0 .1 in omega (arith, one-shifted (c .before .before .before .before .before .before .before .before .before .before .before .before .before .before .before .before .before .before .args .st .chunkBits) h)
+
+returns-9 : tie.Need-returns-9
+returns-9 c = let h : c .before .before .before .before .before .before .before .before .before .before .before .before .before .before .before .before .before .before .args .st .chunkBits ≤ 32 = omega (arith, c .before .before .before .before .before .before .before .before) in (omega (arith, c .before .before .before .before .before .before .before .before .before .before .before .before), ((omega (arith, c .before .before .before .before .before .before .before .before), h), (omega (arith, c .before .before .before .before .before .before), omega (arith, one-shifted (c .before .before .before .before .before .before .before .before .before .before .before .before .before .before .before .before .before .before .args .st .chunkBits) h))), omega (arith, c .before .before))
+
+pub bits-fit-spec : {M : Type 1} → statement M
+bits-fit-spec =
+    tie.close
+    (tie.spec
+    returns
+    returns-2
+    returns-3
+    returns-4
+    mul-if5
+    add-if5
+    returns-5
+    returns-6
+    returns-7
+    shl-if8
+    returns-8
+    returns-9)

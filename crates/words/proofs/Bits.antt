@@ -1,0 +1,224 @@
+-- Laws of bits: of a number, and of a list of bytes. Assumes nothing.
+use Prim.Native.Nat.{ℕ, zero, suc, _+_, _-_, _*_, _/_, _%_, _^_, _≤_, _<_, min, max}
+use mathlib.Core.List.{List}
+use mathlib.Core.Path.{_≡_, refl, ap, ap₂, sym, _∙_, subst}
+use mathlib.Core.Logic.{_⊎_, inl, inr, ⊎-elim, _≢_}
+use native.Mathlib.Omega.{arith}
+use native.Mathlib.Nat.{add-zero, add-suc, one-mul, pow-suc, mod-eq-of-lt, mod-lt, mul-assoc}
+use native.Mathlib.Numerals.{add-one}
+use lib.ListN.{length, getD, set, length-set}
+use lib.Seq.{getD-set-same, getD-set-other, set-out}
+use lib.Pow.{pow-add, split, high, low, field, mod-mod-pow, shr-shr, shr-lt, pow-pos, pow-lt, ones-lt}
+use lib.Arith.{digits-lt, mul-pred}
+use lib.Bits.{bitAnd, bitOr, or-block, or-step, or-zero-r, and-block, and-step, and-mask, mask-lt}
+use Rattle.words.specs.Bytes.{Bytes}
+use Rattle.words.specs.Bits.{bitOf, withBit, bit, putBit, putBits, ones}
+use Rattle.lists.specs.Cases.{lt-or, same-or}
+use Rattle.words.proofs.Bytes.{bytes-set}
+
+-- ---- bits of a number
+
+rest : (v i : ℕ) → v % 2 ^ i < 2 ^ i
+rest v i = mod-lt v (pow-pos i)
+
+pub bit-lt : (v i : ℕ) → bitOf v i < 2
+bit-lt v i = omega arith
+
+with-same : (v i b : ℕ) → b < 2 → bitOf (withBit v i b) i ≡ b
+with-same v i b h = rw (high (v / 2 ^ i / 2 * 2 + b) i (rest v i)) (omega arith)
+
+-- the bits below i are those of the number modulo 2 ^ i
+low-bits : (v i j : ℕ) → j < i → bitOf v j ≡ bitOf (v % 2 ^ i) j
+low-bits v i j h =
+    let k : ℕ = i - j - 1 in
+    let e : k + 1 + j ≡ i = omega arith in
+    let f : v % 2 ^ i / 2 ^ j ≡ v / 2 ^ j % 2 ^ (k + 1) = subst (λ (w : ℕ). v % 2 ^ w / 2 ^ j ≡ v / 2 ^ j % 2 ^ (k + 1)) e (field v (k + 1) j) in
+    sym (mod-mod-pow (v / 2 ^ j) k 1) ∙ ap (λ (x : ℕ). x % 2) (sym f)
+
+-- those above i are those of the number without its i + 1 lowest
+high-bits : (v i j : ℕ) → i < j → v / 2 ^ j ≡ v / 2 ^ i / 2 / 2 ^ (j - i - 1)
+high-bits v i j h =
+    let e : i + 1 + (j - i - 1) ≡ j = omega arith in
+    sym (shr-shr (v / 2 ^ i) 1 (j - i - 1) ∙ shr-shr v i (1 + (j - i - 1)) ∙ ap (λ (w : ℕ). v / 2 ^ w) (omega arith))
+
+with-other : (v i b j : ℕ) → b < 2 → j ≢ i → bitOf (withBit v i b) j ≡ bitOf v j
+with-other v i b j hb ne =
+    ⊎-elim
+    (λ (h : j < i).
+    low-bits (withBit v i b) i j h
+    ∙ ap (λ (w : ℕ). bitOf w j) (low (v / 2 ^ i / 2 * 2 + b) i (rest v i))
+    ∙ sym (low-bits v i j h))
+    (λ (h : i ≤ j).
+    let above : i < j = omega arith in
+    let same : withBit v i b / 2 ^ i / 2 ≡ v / 2 ^ i / 2 = rw (high (v / 2 ^ i / 2 * 2 + b) i (rest v i)) (omega arith) in
+    ap (λ (w : ℕ). w % 2) (high-bits (withBit v i b) i j above ∙ ap (λ (w : ℕ). w / 2 ^ (j - i - 1)) same ∙ sym (high-bits v i j above)))
+    (lt-or j i)
+
+-- a byte is 7 - i bits, a bit and i bits
+byte-split : (i : ℕ) → i < 8 → 2 ^ (7 - i) * 2 * 2 ^ i ≡ 256
+byte-split i h =
+    let e : 7 - i + 1 + i ≡ 8 = omega arith in
+    sym (pow-add 2 (7 - i + 1) i ∙ ap (λ (w : ℕ). w * 2 ^ i) (pow-add 2 (7 - i) 1)) ∙ ap (λ (w : ℕ). 2 ^ w) e
+
+upper-lt : (v i : ℕ) → v < 256 → i < 8 → v / 2 ^ i / 2 < 2 ^ (7 - i)
+upper-lt v i hv hi =
+    let e : 7 - i + (i + 1) ≡ 8 = omega arith in
+    rw (shr-shr v i 1) (shr-lt (7 - i) (i + 1) (subst (λ (w : ℕ). v < 2 ^ w) (sym e) hv))
+
+with-lt : (v i b : ℕ) → v < 256 → i < 8 → b < 2 → withBit v i b < 256
+with-lt v i b hv hi hb =
+    let upper : v / 2 ^ i / 2 * 2 + b < 2 ^ (7 - i) * 2 = omega (arith, upper-lt v i hv hi) in
+    rw (← byte-split i hi) (digits-lt upper (rest v i))
+
+-- ---- the masks of the code
+
+mask : (i : ℕ) → i < 8 → 1 * 2 ^ i % 256 ≡ 2 ^ i
+mask i h = rw one-mul (mod-eq-of-lt (pow-lt h))
+
+or-bit : (v i : ℕ) → bitOr v (2 ^ i) ≡ withBit v i 1
+or-bit v i =
+    let x : ℕ = v / 2 ^ i in
+    let one : bitOr x 1 ≡ x / 2 * 2 + 1 = or-step x 1 ∙ ap₂ (λ (a b : ℕ). a * 2 + b) (or-zero-r (x / 2)) (omega arith) in
+    ap₂ bitOr (sym (split v i)) (sym (add-zero (1 * 2 ^ i) ∙ one-mul (2 ^ i)))
+    ∙ or-block i x 1 (v % 2 ^ i) 0 (rest v i) (pow-pos i)
+    ∙ ap₂ (λ (a b : ℕ). a * 2 ^ i + b) one (or-zero-r (v % 2 ^ i))
+
+-- every bit of a byte but bit i
+all-but : (i : ℕ) → i < 8 → 255 - 2 ^ i ≡ (2 ^ (7 - i) - 1) * 2 * 2 ^ i + (2 ^ i - 1)
+all-but i h =
+    let e : 2 ^ (7 - i) * (2 * 2 ^ i) ≡ 256 = sym (mul-assoc (2 ^ (7 - i)) 2 (2 ^ i)) ∙ byte-split i h in
+    let p : 2 ^ (7 - i) * (2 * 2 ^ i) - 1 ≡ (2 ^ (7 - i) - 1) * (2 * 2 ^ i) + (2 * 2 ^ i - 1) = mul-pred (pow-pos (7 - i)) (omega (arith, pow-pos i)) in
+    rw (mul-assoc (2 ^ (7 - i) - 1) 2 (2 ^ i)) (omega (arith, pow-pos i))
+
+and-bit : (v i : ℕ) → v < 256 → i < 8 → bitAnd v (255 - 2 ^ i) ≡ withBit v i 0
+and-bit v i hv hi =
+    let x : ℕ = v / 2 ^ i in
+    let m : ℕ = 2 ^ (7 - i) - 1 in
+    let half : m * 2 / 2 ≡ m = omega arith in
+    let even : m * 2 % 2 ≡ 0 = omega arith in
+    let upper : bitAnd (x / 2) m ≡ x / 2 = and-mask (x / 2) (7 - i) ∙ mod-eq-of-lt (upper-lt v i hv hi) in
+    let high-part : bitAnd x (m * 2) ≡ x / 2 * 2 + 0 = and-step x (m * 2) ∙ rw (half, even, upper) (omega arith) in
+    let low-part : bitAnd (v % 2 ^ i) (2 ^ i - 1) ≡ v % 2 ^ i = and-mask (v % 2 ^ i) i ∙ mod-eq-of-lt (rest v i) in
+    ap₂ bitAnd (sym (split v i)) (all-but i hi)
+    ∙ and-block i x (m * 2) (v % 2 ^ i) (2 ^ i - 1) (rest v i) (ones-lt i)
+    ∙ ap₂ (λ (a b : ℕ). a * 2 ^ i + b) high-part low-part
+
+pub and-one : (x : ℕ) → (bitAnd x 1 ≡ x % 2) × (bitAnd x 1 < 2)
+and-one x = (and-mask x 1, mask-lt x 1)
+
+pub or-sets : (v i : ℕ) → i < 8 → bitOr v (1 * 2 ^ i % 256) ≡ withBit v i 1
+or-sets v i h = rw (mask i h) (or-bit v i)
+
+pub and-clears : (v i : ℕ) → v < 256 → i < 8 → bitAnd v (255 - 1 * 2 ^ i % 256) ≡ withBit v i 0
+and-clears v i hv h = rw (mask i h) (and-bit v i hv h)
+
+-- ---- bits of a list of bytes
+
+pub length-putBit : (l : List ℕ) (at i b : ℕ) → length (putBit l at i b) ≡ length l
+unfolding putBit
+length-putBit l at i b = length-set l (at + i / 8) _
+
+pub bytes-putBit : (l : List ℕ) (at i b : ℕ) → Bytes l → b < 2 → Bytes (putBit l at i b)
+unfolding putBit
+bytes-putBit l at i b h hb = bytes-set l (at + i / 8) _ h (with-lt (getD l (at + i / 8) 0) (i % 8) b (h _) (omega arith) hb)
+
+pub getD-putBit-out : (l : List ℕ) (at i b j : ℕ) → j ≢ at + i / 8 → getD (putBit l at i b) j 0 ≡ getD l j 0
+unfolding putBit
+getD-putBit-out l at i b j ne = getD-set-other l (at + i / 8) j _ 0 ne
+
+pub bit-putBit-same : (l : List ℕ) (at i b : ℕ) → 8 * at + i < 8 * length l → b < 2 → bit (putBit l at i b) at i ≡ b
+unfolding bit putBit
+bit-putBit-same l at i b h hb = rw (getD-set-same l (at + i / 8) _ 0 (omega arith)) (with-same (getD l (at + i / 8) 0) (i % 8) b hb)
+
+pub bit-putBit-other : (l : List ℕ) (at i b j : ℕ) → b < 2 → j ≢ i → bit (putBit l at i b) at j ≡ bit l at j
+unfolding bit putBit
+bit-putBit-other l at i b j hb ne =
+    ⊎-elim
+    (λ (e : j / 8 ≡ i / 8).
+    let apart : j % 8 ≢ i % 8 = omega arith in
+    ⊎-elim
+    (λ (h : at + i / 8 < length l). rw (e, getD-set-same l (at + i / 8) _ 0 h) (with-other (getD l (at + i / 8) 0) (i % 8) b (j % 8) hb apart))
+    (λ (h : length l ≤ at + i / 8). rw (set-out l (at + i / 8) _ h))
+    (lt-or (at + i / 8) (length l)))
+    (λ (e : j / 8 ≢ i / 8). rw (getD-set-other l (at + i / 8) (at + j / 8) _ 0 (omega arith)))
+    (same-or (j / 8) (i / 8))
+
+-- ---- a range of bits
+
+pub putBits-more : (l : List ℕ) (at i n b : ℕ) → putBits l at i (n + 1) b ≡ putBit (putBits l at i n b) at (i + n) b
+unfolding putBits
+putBits-more l at i n b = rw add-one
+
+pub putBits-none : (l : List ℕ) (at i b : ℕ) → putBits l at i 0 b ≡ l
+unfolding putBits
+putBits-none l at i b = refl
+
+pub length-putBits : (l : List ℕ) (at i n b : ℕ) → length (putBits l at i n b) ≡ length l
+unfolding putBits
+length-putBits l at i zero b = refl
+length-putBits l at i (suc n) b = length-putBit (putBits l at i n b) at (i + n) b ∙ length-putBits l at i n b
+
+pub bytes-putBits : (l : List ℕ) (at i n b : ℕ) → Bytes l → b < 2 → Bytes (putBits l at i n b)
+unfolding putBits
+bytes-putBits l at i zero b h hb = h
+bytes-putBits l at i (suc n) b h hb = bytes-putBit (putBits l at i n b) at (i + n) b (bytes-putBits l at i n b h hb) hb
+
+-- a byte that holds none of the range
+pub getD-putBits-out : (l : List ℕ) (at i n b j : ℕ) → (8 * j + 7 < 8 * at + i) ⊎ (8 * at + i + n ≤ 8 * j) → getD (putBits l at i n b) j 0 ≡ getD l j 0
+unfolding putBits
+getD-putBits-out l at i zero b j o = refl
+getD-putBits-out l at i (suc n) b j o =
+    getD-putBit-out (putBits l at i n b) at (i + n) b j
+    (⊎-elim (λ (h : 8 * j + 7 < 8 * at + i). omega arith) (λ (h : 8 * at + i + suc n ≤ 8 * j). omega arith) o)
+    ∙ getD-putBits-out l at i n b j (⊎-elim (λ h. inl h) (λ (h : 8 * at + i + suc n ≤ 8 * j). inr (omega arith)) o)
+
+pub bit-putBits-out : (l : List ℕ) (at i n b j : ℕ) → b < 2 → (j < i) ⊎ (i + n ≤ j) → bit (putBits l at i n b) at j ≡ bit l at j
+unfolding putBits
+bit-putBits-out l at i zero b j hb o = refl
+bit-putBits-out l at i (suc n) b j hb o =
+    bit-putBit-other (putBits l at i n b) at (i + n) b j hb (⊎-elim (λ (h : j < i). omega arith) (λ (h : i + suc n ≤ j). omega arith) o)
+    ∙ bit-putBits-out l at i n b j hb (⊎-elim (λ h. inl h) (λ (h : i + suc n ≤ j). inr (omega arith)) o)
+
+pub bit-putBits-in : (l : List ℕ) (at i n b j : ℕ) → 8 * at + i + n ≤ 8 * length l → b < 2 → i ≤ j → j < i + n → bit (putBits l at i n b) at j ≡ b
+unfolding putBits
+bit-putBits-in l at i zero b j h hb lo hi = absurd (omega arith)
+bit-putBits-in l at i (suc n) b j h hb lo hi =
+    ⊎-elim
+    (λ (e : j ≡ i + n). rw e (bit-putBit-same (putBits l at i n b) at (i + n) b (rw length-putBits (omega arith)) hb))
+    (λ (e : j ≢ i + n).
+    bit-putBit-other (putBits l at i n b) at (i + n) b j hb e
+    ∙ bit-putBits-in l at i n b j (omega arith) hb lo (omega arith))
+    (same-or j (i + n))
+
+-- ---- counting
+
+pub ones-more : (l : List ℕ) (at i n : ℕ) → ones l at i (n + 1) ≡ ones l at i n + bit l at (i + n)
+unfolding ones
+ones-more l at i n = rw add-one
+
+pub ones-none : (l : List ℕ) (at i : ℕ) → ones l at i 0 ≡ 0
+unfolding ones
+ones-none l at i = refl
+
+pub ones-le : (l : List ℕ) (at i n : ℕ) → ones l at i n ≤ n
+unfolding ones bit
+ones-le l at i zero = omega arith
+ones-le l at i (suc n) = omega (arith, ones-le l at i n)
+
+-- ---- the loop that sets or clears: the bits before k are made b
+
+pub record PuttingBits (l₀ : List ℕ) (at i n b : ℕ) (l : List ℕ) (k : ℕ) : Type 0 where
+  pub low : k ≤ n
+  pub long : length l ≡ length l₀
+  pub is : l ≡ putBits l₀ at i k b
+
+pub put-starts : (l : List ℕ) (at i n b : ℕ) → PuttingBits l at i n b l 0
+put-starts l at i n b = record { low = omega arith; long = refl; is = sym (putBits-none l at i b) }
+
+pub put-turns : {l₀ : List ℕ} {at i n b : ℕ} {l : List ℕ} {k : ℕ} {l′ : List ℕ} → PuttingBits l₀ at i n b l k → k < n → l′ ≡ putBit l at (i + k) b
+    → PuttingBits l₀ at i n b l′ (k + 1)
+put-turns {l₀} {at} {i} {n} {b} {l} {k} p h e =
+    record { low = omega arith; long = ap length e ∙ length-putBit l at (i + k) b ∙ p .long; is = cc (putBits-more l₀ at i k b, p .is) }
+
+pub put-ends : {l₀ : List ℕ} {at i n b : ℕ} {l : List ℕ} {k : ℕ} → PuttingBits l₀ at i n b l k → n ≤ k → l ≡ putBits l₀ at i n b
+put-ends {l₀} {at} {i} {n} {b} {l} {k} p h = let e : k ≡ n = omega (arith, p .low) in let f : l ≡ putBits l₀ at i k b = p .is in rw e at f

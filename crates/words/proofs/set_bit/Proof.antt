@@ -1,0 +1,35 @@
+use Rattle.words.specs.Bits.{putBit}
+use Rattle.words.proofs.Bits.{or-sets, and-clears}
+use Prim.Native.Nat.{ℕ, _+_, _*_, _/_, _%_, _^_, _-_, _<_}
+use mathlib.Core.Path.{_≡_, ap, _∙_}
+use lib.ListN.{getD, set}
+use native.Mathlib.Omega.{arith}
+use borrow.Author.Needs.{needs}
+use Rattle.words.proofs.set_bit.Statement.{statement}
+use Rattle.words.proofs.set_bit.Tie as tie
+
+add-j : tie.Need-add-j
+add-j c = search needs
+
+slice-read-s : tie.Need-slice-read-s
+slice-read-s c = search needs
+
+cast-s : tie.Need-cast-s
+cast-s c = search needs
+
+shl-s : tie.Need-shl-s
+shl-s c = search needs
+
+slice-write-s : tie.Need-slice-write-s
+slice-write-s c = search needs
+
+same-length : tie.Need-same-length
+same-length c = search needs
+
+returns : tie.Need-returns
+unfolding putBit
+returns c = ap (set (c .before .args .s .now) (c .before .args .at + c .before .args .i / 8)) (or-sets _ (c .before .args .i % 8) (omega arith))
+
+pub set-bit-spec : {M : Type 1} → statement M
+set-bit-spec =
+    tie.close (tie.spec add-j slice-read-s cast-s shl-s slice-write-s same-length returns)

@@ -1,0 +1,4 @@
+-- Numbers and bits in lists of bytes.
+pub mod Bytes
+pub mod Numbers
+pub mod Bits

@@ -1,0 +1,20 @@
+use borrow.Author.Needs.{needs}
+use Rattle.xxh64.specs.Hash.{mix1Of}
+use Rattle.xxh64.proofs.mix1.Statement.{statement}
+use Rattle.xxh64.proofs.mix1.Tie as tie
+
+mul-requires : tie.Need-mul-requires
+mul-requires c κs = search needs
+
+rotl-requires : tie.Need-rotl-requires
+rotl-requires c κs = search needs
+
+mul-requires-2 : tie.Need-mul-requires-2
+mul-requires-2 c κs = search needs
+
+returns : tie.Need-returns
+unfolding mix1Of
+returns c = cc
+
+pub mix1-spec : {M : Type 1} → statement M
+mix1-spec = tie.close (tie.spec mul-requires rotl-requires mul-requires-2 returns)

@@ -1,0 +1,2 @@
+-- XXH64 with seed 0.
+pub mod Hash
