@@ -1,5 +1,5 @@
 -- Decisions: a `yes` comes with what holds, a `no` with its refutation. Each computes.
-use Prim.Native.Nat.{ℕ, zero, suc, _≤_, zero-le}
+use Prim.Native.Nat.{ℕ, zero, suc, _<_}
 use mathlib.Core.Path.{_≡_, subst}
 use mathlib.Core.Logic.{_⊎_, inl, inr, ⊎-elim, _≢_}
 use mathlib.Core.Bool.{Bool, true, false}
@@ -21,19 +21,25 @@ either (yes a) d = yes (inl a)
 either (no n) (yes b) = yes (inr b)
 either (no n) (no m) = no (⊎-elim n m)
 
--- some number up to n
-unfoldable pub someUpTo : (P : ℕ → Type 0) → ((k : ℕ) → Dec (P k)) → (n : ℕ) → Dec ((k : ℕ) × ((k ≤ n) × P k))
-someUpTo P d zero =
-    elim (d zero) [
-      | yes p ↦ yes (zero, (zero-le, p))
-      | no h ↦ no (λ q. let e : q .0 ≡ 0 = omega arith in h (subst P e (q .1 .1)))
-    ]
-someUpTo P d (suc n) =
-    elim (someUpTo P d n) [
+-- where the first holds, the second does
+unfoldable pub implied : {A B : Type 0} → Dec A → (A → Dec B) → Dec (A → B)
+implied (no n) f = yes (λ a. absurd (n a))
+implied (yes a) f = elim (f a) [ yes b ↦ yes (λ _. b) | no n ↦ no (λ g. n (g a)) ]
+
+-- it does not hold
+unfoldable pub refuted : {A : Type 0} → Dec A → Dec (A → ⊥)
+refuted (no n) = yes n
+refuted (yes a) = no (λ f. f a)
+
+-- some number below n
+unfoldable pub someBelow : (P : ℕ → Type 0) → ((k : ℕ) → Dec (P k)) → (n : ℕ) → Dec ((k : ℕ) × ((k < n) × P k))
+someBelow P d zero = no (λ q. let h : q .0 < 0 = q .1 .0 in omega arith)
+someBelow P d (suc n) =
+    elim (someBelow P d n) [
       | yes p ↦ yes (p .0, (omega arith, p .1 .1))
-      | no h ↦ elim (d (suc n)) [
-        | yes p ↦ yes (suc n, (omega arith, p))
-        | no g ↦ no (λ q. ⊎-elim (λ (e : q .0 ≡ suc n). g (subst P e (q .1 .1))) (λ (e : q .0 ≢ suc n). h (q .0, (omega arith, q .1 .1))) (same-or (q .0) (suc n)))
+      | no h ↦ elim (d n) [
+        | yes p ↦ yes (n, (omega arith, p))
+        | no g ↦ no (λ q. ⊎-elim (λ (e : q .0 ≡ n). g (subst P e (q .1 .1))) (λ (e : q .0 ≢ n). h (q .0, (omega arith, q .1 .1))) (same-or (q .0) n))
       ]
     ]
 

@@ -1,2 +1,4 @@
 pub mod Cases
 pub mod Decide
+pub mod Lists
+pub mod Quantify

@@ -2,12 +2,12 @@
 use Prim.Native.Nat.{ℕ, _+_, _*_, _/_, _%_, _^_}
 use mathlib.Core.Path.{_≡_}
 use native.Mathlib.Decide.{decLe, ℕ-discrete}
-use Rattle.lists.specs.Decide.{both, either, someUpTo, rule}
+use Rattle.lists.specs.Decide.{both, either, someBelow, rule}
 use Rattle.settings.specs.declared.Settings.{Settings}
 use Rattle.settings.specs.Rules.{Between, largest, PowerOfTwo, Valid}
 
 unfoldable pub powerOfTwo? : (n : ℕ) → Dec (PowerOfTwo n)
-powerOfTwo? n = someUpTo (λ k. n ≡ 2 ^ k) (λ k. ℕ-discrete n (2 ^ k)) 24
+powerOfTwo? n = someBelow (λ k. n ≡ 2 ^ k) (λ k. ℕ-discrete n (2 ^ k)) 25
 
 unfoldable pub between? : (low high x : ℕ) → Dec (Between low high x)
 between? low high x = both (decLe low x) (λ _. decLe x high)

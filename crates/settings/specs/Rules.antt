@@ -1,6 +1,6 @@
 -- The 17 numbers of a settings block: the rule of each, in the table's order. That no field is larger than `largest` stands
 -- in the rows that have no smaller limit.
-use Prim.Native.Nat.{ℕ, _+_, _*_, _/_, _%_, _^_, _≤_}
+use Prim.Native.Nat.{ℕ, _+_, _*_, _/_, _%_, _^_, _≤_, _<_}
 use mathlib.Core.Path.{_≡_}
 use mathlib.Core.Logic.{_⊎_}
 use Rattle.settings.specs.declared.Settings.{Settings}
@@ -14,7 +14,7 @@ largest = 16777216
 
 -- of the powers that a field can hold
 abbrev pub PowerOfTwo : ℕ → Type 0
-PowerOfTwo n = (k : ℕ) × ((k ≤ 24) × (n ≡ 2 ^ k))
+PowerOfTwo n = (k : ℕ) × ((k < 25) × (n ≡ 2 ^ k))
 
 -- 1: global state offset
 abbrev pub GlobalAt : Settings → Type 0

@@ -1,0 +1,5 @@
+pub mod Follow
+pub mod Tally
+pub mod Walking
+pub mod Segments
+pub mod Answer

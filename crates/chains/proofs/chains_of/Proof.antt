@@ -1,0 +1,98 @@
+use Prim.Native.Nat.{ℕ}
+use native.Mathlib.Omega.{arith}
+use mathlib.Core.Path.{refl, sym}
+use lib.ListN.{replicate, length-replicate}
+use Rattle.layout.specs.Tiers.{tiers}
+use Rattle.layout.proofs.Bounds.{framed-bounded, products}
+use Rattle.lists.proofs.Decides.{decided-true, decided-false}
+use borrow.Author.Tests.{not-true, not-false}
+use Rattle.chains.proofs.Answer.{zeros-met, first-lost, first-long, first-met, first-few, free-lost, second-long, met-wrong, used-wrong, all-right}
+use borrow.Author.Needs.{needs}
+use Rattle.chains.proofs.chains_of.Statement.{statement}
+use Rattle.chains.proofs.chains_of.Tie as tie
+
+slice-aggregate-all-fit : tie.Need-slice-aggregate-all-fit
+slice-aggregate-all-fit c = search needs
+
+all-fit-requires : tie.Need-all-fit-requires
+all-fit-requires c κs = (c .before .before .pre, refl, zeros-met 1025)
+
+enum-known-used : tie.Need-enum-known-used
+enum-known-used c = search needs
+
+enum-told : tie.Need-enum-told
+enum-told c = search needs
+
+returns : tie.Need-returns
+returns c = sym (first-lost (c .before .before .before .before .before .before .args .z) (c .before .before .before .before .before .before .args .img .now) (replicate 1025 0) (c .before .before .before .all-fit .last .1 .1 .0) (c .before .before .before .all-fit .result) (zeros-met 1025) (length-replicate {A = ℕ} 1025 0) (c .before .before .before .before .before .before .pre .valid .segments .1 .1) (c .before .before .before .before .before .before .pre .tierCount) (c .before .before .before .all-fit .ensures) (c .enum-told .given .1))
+
+first-free-requires : tie.Need-first-free-requires
+first-free-requires c κs = search needs
+
+tier-count-requires : tie.Need-tier-count-requires
+tier-count-requires c κs = framed-bounded (c .before .before .before .before .before .before .before .before .pre)
+
+slice-aggregate-walk : tie.Need-slice-aggregate-walk
+slice-aggregate-walk c = search needs
+
+walk-requires : tie.Need-walk-requires
+walk-requires c κs = (c .before .before .before .before .before .before .before .before .before .before .pre, omega (arith, c .before .tier-count .ensures, c .before .before .before .before .before .before .before .before .before .before .pre .tierCount), first-long (c .before .before .before .before .before .before .before .before .before .before .args .z) (c .before .before .before .before .before .before .before .before .before .before .args .img .now) (replicate 1025 0) (c .before .before .before .before .before .before .before .all-fit .last .1 .1 .0) (c .before .before .before .before .before .before .before .all-fit .result) (zeros-met 1025) (length-replicate {A = ℕ} 1025 0) (c .before .before .before .before .before .before .before .before .before .before .pre .valid .segments .1 .1) (c .before .before .before .before .before .before .before .before .before .before .pre .tierCount) (c .before .before .before .before .before .before .before .all-fit .ensures) (c .before .before .before .before .used .given .0 .0) (c .before .before .before .before .used .given .1), first-met (c .before .before .before .before .before .before .before .before .before .before .args .z) (c .before .before .before .before .before .before .before .before .before .before .args .img .now) (replicate 1025 0) (c .before .before .before .before .before .before .before .all-fit .last .1 .1 .0) (c .before .before .before .before .before .before .before .all-fit .result) (zeros-met 1025) (length-replicate {A = ℕ} 1025 0) (c .before .before .before .before .before .before .before .before .before .before .pre .valid .segments .1 .1) (c .before .before .before .before .before .before .before .before .before .before .pre .tierCount) (c .before .before .before .before .before .before .before .all-fit .ensures) (c .before .before .before .before .used .given .0 .0) (c .before .before .before .before .used .given .1))
+
+enum-known-free : tie.Need-enum-known-free
+enum-known-free c = search needs
+
+enum-told-2 : tie.Need-enum-told-2
+enum-told-2 c = search needs
+
+returns-2 : tie.Need-returns-2
+returns-2 c = sym (free-lost (c .before .before .before .before .before .before .before .before .before .before .before .before .before .before .args .z) (c .before .before .before .before .before .before .before .before .before .before .before .before .before .before .args .img .now) (replicate 1025 0) (c .before .before .before .before .before .before .before .before .before .before .before .all-fit .last .1 .1 .0) (c .before .before .before .before .before .before .before .before .before .before .before .all-fit .result) (zeros-met 1025) (length-replicate {A = ℕ} 1025 0) (c .before .before .before .before .before .before .before .before .before .before .before .before .before .before .pre .valid .segments .1 .1) (c .before .before .before .before .before .before .before .before .before .before .before .before .before .before .pre .tierCount) (c .before .before .before .before .before .before .before .before .before .before .before .all-fit .ensures) (c .before .before .before .before .before .before .before .before .used .given .0 .0) (c .before .before .before .before .before .before .before .before .used .given .1) (c .before .before .before .walk .last .1 .1 .1 .1 .0) (c .before .before .before .before .before .before .first-free .result) (c .before .before .before .before .before .tier-count .result) (c .before .before .before .walk .result) (c .before .before .before .before .before .before .first-free .ensures) (c .before .before .before .before .before .tier-count .ensures) (c .before .before .before .walk .ensures) (c .enum-told2 .given .1))
+
+slice-aggregate-met-once : tie.Need-slice-aggregate-met-once
+slice-aggregate-met-once c = search needs
+
+mul-met-once : tie.Need-mul-met-once
+mul-met-once c = omega (arith, products (framed-bounded (c .before .before .before .before .before .before .before .before .before .before .before .before .before .before .before .before .before .pre)) .extras)
+
+met-once-requires : tie.Need-met-once-requires
+unfolding tiers
+met-once-requires c κs = omega (arith, second-long (c .before .before .before .before .before .before .before .before .before .before .before .before .before .before .before .before .before .args .z) (c .before .before .before .before .before .before .before .before .before .before .before .before .before .before .before .before .before .args .img .now) (replicate 1025 0) (c .before .before .before .before .before .before .before .before .before .before .before .before .before .before .all-fit .last .1 .1 .0) (c .before .before .before .before .before .before .before .before .before .before .before .before .before .before .all-fit .result) (zeros-met 1025) (length-replicate {A = ℕ} 1025 0) (c .before .before .before .before .before .before .before .before .before .before .before .before .before .before .before .before .before .pre .valid .segments .1 .1) (c .before .before .before .before .before .before .before .before .before .before .before .before .before .before .before .before .before .pre .tierCount) (c .before .before .before .before .before .before .before .before .before .before .before .before .before .before .all-fit .ensures) (c .before .before .before .before .before .before .before .before .before .before .before .used .given .0 .0) (c .before .before .before .before .before .before .before .before .before .before .before .used .given .1) (c .before .before .before .before .before .before .walk .last .1 .1 .1 .1 .0) (c .before .before .before .before .before .before .before .before .before .first-free .result) (c .before .before .before .before .before .before .before .before .tier-count .result) (c .before .before .before .before .before .before .walk .result) (c .before .before .before .before .before .before .before .before .before .first-free .ensures) (c .before .before .before .before .before .before .before .before .tier-count .ensures) (c .before .before .before .before .before .before .walk .ensures) (c .before .before .before .free .given .0 .0) (c .before .before .before .free .given .1), c .before .before .before .before .before .before .before .before .before .before .before .before .before .before .before .before .before .pre .tierCount)
+
+returns-3 : tie.Need-returns-3
+returns-3 c = sym (met-wrong (c .before .before .before .before .before .before .before .before .before .before .before .before .before .before .before .before .before .before .before .args .z) (c .before .before .before .before .before .before .before .before .before .before .before .before .before .before .before .before .before .before .before .args .img .now) (replicate 1025 0) (c .before .before .before .before .before .before .before .before .before .before .before .before .before .before .before .before .all-fit .last .1 .1 .0) (c .before .before .before .before .before .before .before .before .before .before .before .before .before .before .before .before .all-fit .result) (zeros-met 1025) (length-replicate {A = ℕ} 1025 0) (c .before .before .before .before .before .before .before .before .before .before .before .before .before .before .before .before .before .before .before .pre .valid .segments .1 .1) (c .before .before .before .before .before .before .before .before .before .before .before .before .before .before .before .before .before .before .before .pre .tierCount) (c .before .before .before .before .before .before .before .before .before .before .before .before .before .before .before .before .all-fit .ensures) (c .before .before .before .before .before .before .before .before .before .before .before .before .before .used .given .0 .0) (c .before .before .before .before .before .before .before .before .before .before .before .before .before .used .given .1) (c .before .before .before .before .before .before .before .before .walk .last .1 .1 .1 .1 .0) (c .before .before .before .before .before .before .before .before .before .before .before .first-free .result) (c .before .before .before .before .before .before .before .before .before .before .tier-count .result) (c .before .before .before .before .before .before .before .before .walk .result) (c .before .before .before .before .before .before .before .before .before .before .before .first-free .ensures) (c .before .before .before .before .before .before .before .before .before .before .tier-count .ensures) (c .before .before .before .before .before .before .before .before .walk .ensures) (c .before .before .before .before .before .free .given .0 .0) (c .before .before .before .before .before .free .given .1) (decided-false (c .before .met-once .result) (c .before .met-once .ensures) (not-true _ (c .if1 .taken))))
+
+used-tiers-requires : tie.Need-used-tiers-requires
+used-tiers-requires c κs = search needs
+
+returns-4 : tie.Need-returns-4
+returns-4 c = sym (used-wrong (c .before .before .before .before .before .before .before .before .before .before .before .before .before .before .before .before .before .before .before .before .before .args .z) (c .before .before .before .before .before .before .before .before .before .before .before .before .before .before .before .before .before .before .before .before .before .args .img .now) (replicate 1025 0) (c .before .before .before .before .before .before .before .before .before .before .before .before .before .before .before .before .before .before .all-fit .last .1 .1 .0) (c .before .before .before .before .before .before .before .before .before .before .before .before .before .before .before .before .before .before .all-fit .result) (zeros-met 1025) (length-replicate {A = ℕ} 1025 0) (c .before .before .before .before .before .before .before .before .before .before .before .before .before .before .before .before .before .before .before .before .before .pre .valid .segments .1 .1) (c .before .before .before .before .before .before .before .before .before .before .before .before .before .before .before .before .before .before .before .before .before .pre .tierCount) (c .before .before .before .before .before .before .before .before .before .before .before .before .before .before .before .before .before .before .all-fit .ensures) (c .before .before .before .before .before .before .before .before .before .before .before .before .before .before .before .used .given .0 .0) (c .before .before .before .before .before .before .before .before .before .before .before .before .before .before .before .used .given .1) (c .before .before .before .before .before .before .before .before .before .before .walk .last .1 .1 .1 .1 .0) (c .before .before .before .before .before .before .before .before .before .before .before .before .before .first-free .result) (c .before .before .before .before .before .before .before .before .before .before .before .before .tier-count .result) (c .before .before .before .before .before .before .before .before .before .before .walk .result) (c .before .before .before .before .before .before .before .before .before .before .before .before .before .first-free .ensures) (c .before .before .before .before .before .before .before .before .before .before .before .before .tier-count .ensures) (c .before .before .before .before .before .before .before .before .before .before .walk .ensures) (c .before .before .before .before .before .before .before .free .given .0 .0) (c .before .before .before .before .before .before .before .free .given .1) (c .before .used-tiers .result) (c .before .used-tiers .ensures) (c .if2 .taken))
+
+add-t12 : tie.Need-add-t12
+add-t12 c = omega (arith, first-few (c .before .before .before .before .before .before .before .before .before .before .before .before .before .before .before .before .before .before .before .before .before .before .args .z) (c .before .before .before .before .before .before .before .before .before .before .before .before .before .before .before .before .before .before .before .before .before .before .args .img .now) (replicate 1025 0) (c .before .before .before .before .before .before .before .before .before .before .before .before .before .before .before .before .before .before .before .all-fit .last .1 .1 .0) (c .before .before .before .before .before .before .before .before .before .before .before .before .before .before .before .before .before .before .before .all-fit .result) (zeros-met 1025) (length-replicate {A = ℕ} 1025 0) (c .before .before .before .before .before .before .before .before .before .before .before .before .before .before .before .before .before .before .before .before .before .before .pre .valid .segments .1 .1) (c .before .before .before .before .before .before .before .before .before .before .before .before .before .before .before .before .before .before .before .before .before .before .pre .tierCount) (c .before .before .before .before .before .before .before .before .before .before .before .before .before .before .before .before .before .before .before .all-fit .ensures) (c .before .before .before .before .before .before .before .before .before .before .before .before .before .before .before .before .used .given .0 .0) (c .before .before .before .before .before .before .before .before .before .before .before .before .before .before .before .before .used .given .1), c .before .before .before .before .before .before .before .before .before .before .before .before .before .before .before .before .before .before .before .before .before .before .pre .valid .segments .1 .1)
+
+returns-5 : tie.Need-returns-5
+returns-5 c = sym (all-right (c .before .before .before .before .before .before .before .before .before .before .before .before .before .before .before .before .before .before .before .before .before .before .args .z) (c .before .before .before .before .before .before .before .before .before .before .before .before .before .before .before .before .before .before .before .before .before .before .args .img .now) (replicate 1025 0) (c .before .before .before .before .before .before .before .before .before .before .before .before .before .before .before .before .before .before .before .all-fit .last .1 .1 .0) (c .before .before .before .before .before .before .before .before .before .before .before .before .before .before .before .before .before .before .before .all-fit .result) (zeros-met 1025) (length-replicate {A = ℕ} 1025 0) (c .before .before .before .before .before .before .before .before .before .before .before .before .before .before .before .before .before .before .before .before .before .before .pre .valid .segments .1 .1) (c .before .before .before .before .before .before .before .before .before .before .before .before .before .before .before .before .before .before .before .before .before .before .pre .tierCount) (c .before .before .before .before .before .before .before .before .before .before .before .before .before .before .before .before .before .before .before .all-fit .ensures) (c .before .before .before .before .before .before .before .before .before .before .before .before .before .before .before .before .used .given .0 .0) (c .before .before .before .before .before .before .before .before .before .before .before .before .before .before .before .before .used .given .1) (c .before .before .before .before .before .before .before .before .before .before .before .walk .last .1 .1 .1 .1 .0) (c .before .before .before .before .before .before .before .before .before .before .before .before .before .before .first-free .result) (c .before .before .before .before .before .before .before .before .before .before .before .before .before .tier-count .result) (c .before .before .before .before .before .before .before .before .before .before .before .walk .result) (c .before .before .before .before .before .before .before .before .before .before .before .before .before .before .first-free .ensures) (c .before .before .before .before .before .before .before .before .before .before .before .before .before .tier-count .ensures) (c .before .before .before .before .before .before .before .before .before .before .before .walk .ensures) (c .before .before .before .before .before .before .before .before .free .given .0 .0) (c .before .before .before .before .before .before .before .before .free .given .1) (decided-true (c .before .before .before .before .met-once .result) (c .before .before .before .before .met-once .ensures) (not-false _ (c .before .before .before .if1 .left))) (c .before .before .used-tiers .result) (c .before .before .used-tiers .ensures) (c .before .if2 .left))
+
+pub chains-of-spec : {M : Type 1} → statement M
+chains-of-spec =
+    tie.close
+    (tie.spec
+    slice-aggregate-all-fit
+    all-fit-requires
+    enum-known-used
+    enum-told
+    returns
+    first-free-requires
+    tier-count-requires
+    slice-aggregate-walk
+    walk-requires
+    enum-known-free
+    enum-told-2
+    returns-2
+    slice-aggregate-met-once
+    mul-met-once
+    met-once-requires
+    returns-3
+    used-tiers-requires
+    returns-4
+    add-t12
+    returns-5)

@@ -1,0 +1,142 @@
+-- Laws of the frame: what is accepted, and which writes keep it. Assumes nothing.
+use Prim.Native.Nat.{ℕ, _+_, _-_, _*_, _≤_}
+use mathlib.Core.List.{List}
+use mathlib.Core.Path.{_≡_, refl, sym, _∙_}
+use mathlib.Core.Logic.{_≢_}
+use native.Mathlib.Omega.{arith}
+use lib.ListN.{length}
+use lib.Seq.{sets, length-sets}
+use Rattle.words.specs.Numbers.{le}
+use Rattle.settings.specs.declared.Settings.{Settings}
+use Rattle.settings.specs.Rules.{Valid}
+use Rattle.layout.specs.declared.Shape.{Shape}
+use Rattle.layout.specs.declared.Frame.the-variants.{Fits, Broken}
+use Rattle.layout.specs.Tiers.{IsTier}
+use Rattle.layout.specs.Places.{bulkCount, headersOffset, storeSize, Place, global, wide, In, get, put, putMarks, chunkAt}
+use Rattle.layout.specs.Frame.{shapeOf, FrameFits, frameFits?, fromFrame, frameOf, Framed}
+use Rattle.layout.proofs.Places.{global-at, get-at, get-other, length-put, by-kind}
+use Rattle.layout.proofs.Marks.{get-putMarks-other, length-putMarks}
+use Rattle.layout.proofs.Chunks.{get-sets-other}
+
+-- ---- a frame is accepted exactly where it fits
+
+frame-met : (z : Shape) (img : List ℕ) (d : Dec (FrameFits z img)) → FrameFits z img → fromFrame z img d ≡ Fits z
+unfolding fromFrame
+frame-met z img (no n) f = absurd (n f)
+frame-met z img (yes _) f = refl
+
+frame-missed : (z : Shape) (img : List ℕ) (d : Dec (FrameFits z img)) → (FrameFits z img → ⊥) → fromFrame z img d ≡ Broken
+unfolding fromFrame
+frame-missed z img (no _) h = refl
+frame-missed z img (yes f) h = absurd (h f)
+
+module _ (st : Settings) (img : List ℕ) where
+  pub frame-fits : FrameFits (shapeOf st img) img → frameOf st img ≡ Fits (shapeOf st img)
+  unfolding frameOf
+  frame-fits f = frame-met (shapeOf st img) img (frameFits? (shapeOf st img) img) f
+
+  pub frame-broken : (FrameFits (shapeOf st img) img → ⊥) → frameOf st img ≡ Broken
+  unfolding frameOf
+  frame-broken h = frame-missed (shapeOf st img) img (frameFits? (shapeOf st img) img) h
+
+  -- and nothing else is accepted
+  pub record Fitting (z : Shape) : Type 0 where
+    pub is : z ≡ shapeOf st img
+    pub fits : FrameFits z img
+
+  from-frame : (z : Shape) (d : Dec (FrameFits (shapeOf st img) img)) → fromFrame (shapeOf st img) img d ≡ Fits z → Fitting z
+  unfolding fromFrame
+  from-frame z (no _) e = absurd (let o : _≡_ {A = ℕ} 0 1 = cc in omega arith)
+  from-frame z (yes f) e = let same : shapeOf st img ≡ z = cc in record { is = sym same; fits = rw (← same) f }
+
+  pub frame-only : (z : Shape) → frameOf st img ≡ Fits z → Fitting z
+  unfolding frameOf
+  frame-only z e = from-frame z (frameFits? (shapeOf st img) img) e
+
+  pub framed : Valid st → FrameFits (shapeOf st img) img → Framed (shapeOf st img) (length img)
+  unfolding shapeOf
+  framed v f = record { valid = v; headersAfter = f .headersAfter; tierCount = f .tierCount; within = f .storeWithin; small = f .imageLength .1 }
+
+  pub frame-framed : (z : Shape) → Valid st → frameOf st img ≡ Fits z → Framed z (length img)
+  frame-framed z v e = let f = frame-only z e in rw (f .is) (framed v (rw (f .is) at (f .fits)))
+
+-- ---- the shape is what two places say
+
+pub shape-settings : (st : Settings) (img : List ℕ) → shapeOf st img .settings ≡ st
+unfolding shapeOf
+shape-settings st img = refl
+
+pub shape-own : (st : Settings) (img : List ℕ) → shapeOf (shapeOf st img .settings) img ≡ shapeOf st img
+unfolding shapeOf
+shape-own st img = refl
+
+module _ (z : Shape) (img : List ℕ) where
+  pub headers-get : get z img (global headersOffset) ≡ shapeOf (z .settings) img .headers
+  unfolding shapeOf wide
+  headers-get = sym (get-at z img (global headersOffset) (sym (global-at z headersOffset)) refl)
+
+  pub bulks-get : get z img (global bulkCount) ≡ shapeOf (z .settings) img .bulks
+  unfolding shapeOf wide
+  bulks-get = sym (get-at z img (global bulkCount) (sym (global-at z bulkCount)) refl)
+
+  pub storeSize-get : get z img (global storeSize) ≡ le img (z .settings .globalAt + 25) 8
+  unfolding wide
+  storeSize-get = sym (get-at z img (global storeSize) (sym (global-at z storeSize)) refl)
+
+-- two images that agree on these places
+pub shape-same : (z : Shape) (img img′ : List ℕ) → get z img′ (global headersOffset) ≡ get z img (global headersOffset)
+    → get z img′ (global bulkCount) ≡ get z img (global bulkCount) → shapeOf (z .settings) img′ ≡ shapeOf (z .settings) img
+unfolding shapeOf
+shape-same z img img′ h b =
+    let hh : shapeOf (z .settings) img′ .headers ≡ shapeOf (z .settings) img .headers = sym (headers-get z img′) ∙ h ∙ headers-get z img in
+    let bb : shapeOf (z .settings) img′ .bulks ≡ shapeOf (z .settings) img .bulks = sym (bulks-get z img′) ∙ b ∙ bulks-get z img in
+    λ i. record { settings = z .settings; headers = hh i; bulks = bb i }
+
+pub fits-same : (z : Shape) (img img′ : List ℕ) → length img′ ≡ length img → get z img′ (global storeSize) ≡ get z img (global storeSize)
+    → FrameFits z img → FrameFits z img′
+fits-same z img img′ e s f =
+    record {
+      imageLength = rw e (f .imageLength);
+      headersAfter = f .headersAfter;
+      tierCount = f .tierCount;
+      storeSizeIs = s ∙ f .storeSizeIs;
+      storeWithin = rw e (f .storeWithin);
+    }
+
+-- ---- which writes keep them
+
+module _ {z : Shape} {len : ℕ} (fr : Framed z len) (img : List ℕ) where
+  pub shape-put : (p : Place) (v : ℕ) → In z p → p ≢ global headersOffset → p ≢ global bulkCount
+      → shapeOf (z .settings) (put z img p v) ≡ shapeOf (z .settings) img
+  shape-put p v h ne me =
+      shape-same z img (put z img p v)
+      (get-other fr img p v (global headersOffset) h tt (λ e. ne (sym e)))
+      (get-other fr img p v (global bulkCount) h tt (λ e. me (sym e)))
+
+  pub shape-putMarks : (t c n b : ℕ) → IsTier z t → c + n ≤ z .settings .chunks → shapeOf (z .settings) (putMarks z img t c n b) ≡ shapeOf (z .settings) img
+  shape-putMarks t c n b it fits =
+      shape-same z img (putMarks z img t c n b)
+      (get-putMarks-other fr img t c n b (global headersOffset) it fits tt (λ j. by-kind (omega arith)))
+      (get-putMarks-other fr img t c n b (global bulkCount) it fits tt (λ j. by-kind (omega arith)))
+
+  pub fits-put : (p : Place) (v : ℕ) → In z p → p ≢ global storeSize → FrameFits z img → FrameFits z (put z img p v)
+  fits-put p v h ne = fits-same z img (put z img p v) (length-put z img p v) (get-other fr img p v (global storeSize) h tt (λ e. ne (sym e)))
+
+  pub fits-putMarks : (t c n b : ℕ) → IsTier z t → c + n ≤ z .settings .chunks → FrameFits z img → FrameFits z (putMarks z img t c n b)
+  fits-putMarks t c n b it fits =
+      fits-same z img (putMarks z img t c n b) (length-putMarks z img t c n b)
+      (get-putMarks-other fr img t c n b (global storeSize) it fits tt (λ j. by-kind (omega arith)))
+
+  -- bytes written into the chunks
+  pub shape-sets : (t c : ℕ) (bs : List ℕ) → IsTier z t → c ≤ z .settings .chunks → length bs ≤ (z .settings .chunks - c) * z .settings .chunkSize
+      → shapeOf (z .settings) (sets img (chunkAt z t c) bs) ≡ shapeOf (z .settings) img
+  shape-sets t c bs it k fits =
+      shape-same z img (sets img (chunkAt z t c) bs)
+      (get-sets-other fr img t c bs (global headersOffset) it k fits tt (λ j. by-kind (omega arith)))
+      (get-sets-other fr img t c bs (global bulkCount) it k fits tt (λ j. by-kind (omega arith)))
+
+  pub fits-sets : (t c : ℕ) (bs : List ℕ) → IsTier z t → c ≤ z .settings .chunks → length bs ≤ (z .settings .chunks - c) * z .settings .chunkSize
+      → FrameFits z img → FrameFits z (sets img (chunkAt z t c) bs)
+  fits-sets t c bs it k fits =
+      fits-same z img (sets img (chunkAt z t c) bs) (length-sets img (chunkAt z t c) bs)
+      (get-sets-other fr img t c bs (global storeSize) it k fits tt (λ j. by-kind (omega arith)))

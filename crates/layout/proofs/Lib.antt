@@ -1,0 +1,7 @@
+pub mod Tiers
+pub mod Apart
+pub mod Places
+pub mod Marks
+pub mod Chunks
+pub mod Frames
+pub mod Bounds

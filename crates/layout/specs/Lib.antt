@@ -1,0 +1,3 @@
+pub mod Tiers
+pub mod Places
+pub mod Frame

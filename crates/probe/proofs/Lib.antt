@@ -1,0 +1,8 @@
+-- The laws of linear probing.
+pub mod Ring
+pub mod Table
+pub mod Search
+pub mod Insertion
+pub mod Shifting
+pub mod Removal
+pub mod Has

@@ -1,0 +1,5 @@
+-- Linear probing on a table of slots.
+pub mod Ring
+pub mod Table
+pub mod Search
+pub mod Removal
