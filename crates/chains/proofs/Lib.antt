@@ -3,3 +3,4 @@ pub mod Tally
 pub mod Walking
 pub mod Segments
 pub mod Answer
+pub mod Along

@@ -1,2 +1,3 @@
 pub mod Decides
 pub mod Lists
+pub mod Upto

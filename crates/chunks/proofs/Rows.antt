@@ -1,0 +1,102 @@
+-- Laws of numbers in a row: which of them pass a test, and which first. Assumes nothing.
+use Prim.Native.Nat.{ℕ, zero, suc, _+_, _≤_, _<_}
+use mathlib.Core.List.{List, [], _∷_, _++_, append-nil}
+use mathlib.Core.Path.{_≡_, refl, ap, _∙_}
+use mathlib.Core.Bool.{Bool, true, false}
+use mathlib.Core.Logic.{⊎-elim, _≢_}
+use mathlib.Core.Option.{none, some}
+use native.Mathlib.Omega.{arith}
+use native.Mathlib.Nat.{zero-add, add-zero}
+use native.Mathlib.Numerals.{add-one}
+use lib.Dec.{eqb}
+use lib.ListN.{length, length-append}
+use Rattle.lists.specs.Cases.{by-test, same-or}
+use Rattle.lists.specs.Lists.{span, below, first, those, howMany}
+use Rattle.lists.specs.Quantify.{Below}
+use Rattle.lists.proofs.Lists.{span-more, howMany-same, howMany-other}
+
+-- ---- how often a number stands in a row: once or not at all
+
+pub row-before : (a n i : ℕ) → i < a → howMany (span a n) (eqb i) ≡ 0
+unfolding span those
+row-before a zero i h = refl
+row-before a (suc n) i h = howMany-other i a (span (suc a) n) (omega arith) ∙ row-before (suc a) n i (omega arith)
+
+pub row-after : (a n i : ℕ) → a + n ≤ i → howMany (span a n) (eqb i) ≡ 0
+unfolding span those
+row-after a zero i h = refl
+row-after a (suc n) i h = howMany-other i a (span (suc a) n) (omega arith) ∙ row-after (suc a) n i (omega arith)
+
+pub row-in : (a n i : ℕ) → a ≤ i → i < a + n → howMany (span a n) (eqb i) ≡ 1
+unfolding span those
+row-in a zero i l h = absurd (omega arith)
+row-in a (suc n) i l h =
+    ⊎-elim
+    (λ (e : i ≡ a). howMany-same i a (span (suc a) n) e ∙ ap suc (row-before (suc a) n i (omega arith)))
+    (λ (e : i ≢ a). howMany-other i a (span (suc a) n) e ∙ row-in (suc a) n i (omega arith) (omega arith))
+    (same-or i a)
+
+-- ---- the first that passes a test
+
+module _ (p : ℕ → Bool) where
+  pub first-at : (a n k : ℕ) → k < n → Below k (λ i. p (a + i) ≡ false) → p (a + k) ≡ true → first (span a n) p ≡ some (a + k)
+  unfolding span first
+  first-at a zero k h f t = absurd (omega arith)
+  first-at a (suc n) zero h f t = let u : p a ≡ true = rw add-zero at t in rw (u, add-zero)
+  first-at a (suc n) (suc k) h f t =
+      let u : p a ≡ false = rw add-zero at (f 0 (omega arith)) in
+      let e : suc a + k ≡ a + suc k = omega arith in
+      rw (u, ← e)
+      (first-at (suc a) n k (omega arith) (λ i l. let g : suc a + i ≡ a + suc i = omega arith in rw g (f (suc i) (omega arith))) (rw e t))
+
+  pub first-none : (a n : ℕ) → Below n (λ i. p (a + i) ≡ false) → first (span a n) p ≡ none
+  unfolding span first
+  first-none a zero f = refl
+  first-none a (suc n) f =
+      let u : p a ≡ false = rw add-zero at (f 0 (omega arith)) in
+      rw (u, first) (first-none (suc a) n (λ i l. let g : suc a + i ≡ a + suc i = omega arith in rw g (f (suc i) (omega arith))))
+
+  -- ---- one number more
+
+  those-append : (xs ys : List ℕ) → those (xs ++ ys) p ≡ those xs p ++ those ys p
+  unfolding those
+  those-append [] ys = refl
+  those-append (x ∷ xs) ys =
+      by-test (p x)
+      (λ (t : p x ≡ true). rw (t, those) (ap (λ (r : List ℕ). x ∷ r) (those-append xs ys)))
+      (λ (t : p x ≡ false). rw (t, those) (those-append xs ys))
+
+  more : (n : ℕ) → those (below (n + 1)) p ≡ those (below n) p ++ those (n ∷ []) p
+  more n = rw (add-one, span-more 0 n, zero-add) (those-append (below n) (n ∷ []))
+
+  pub those-more : (n : ℕ) → p n ≡ true → those (below (n + 1)) p ≡ those (below n) p ++ (n ∷ [])
+  unfolding those
+  those-more n t = more n ∙ rw (t, those)
+
+  pub those-same : (n : ℕ) → p n ≡ false → those (below (n + 1)) p ≡ those (below n) p
+  unfolding those
+  those-same n t = more n ∙ rw (t, those) (append-nil (those (below n) p))
+
+  pub howMany-more : (n : ℕ) → p n ≡ true → howMany (below (n + 1)) p ≡ howMany (below n) p + 1
+  howMany-more n t = ap length (those-more n t) ∙ length-append (those (below n) p) (n ∷ [])
+
+  pub howMany-less : (n : ℕ) → p n ≡ false → howMany (below (n + 1)) p ≡ howMany (below n) p
+  howMany-less n t = ap length (those-same n t)
+
+  -- none passes
+  pub none-passes : (n : ℕ) → howMany (below n) p ≡ 0 → Below n (λ i. p i ≡ false)
+  none-passes zero e i h = absurd (omega arith)
+  none-passes (suc n) e i h =
+      by-test (p n)
+      (λ (t : p n ≡ true). let u : howMany (below (suc n)) p ≡ howMany (below n) p + 1 = rw (← add-one n) (howMany-more n t) in absurd (omega arith))
+      (λ (t : p n ≡ false).
+      let u : howMany (below (suc n)) p ≡ howMany (below n) p = rw (← add-one n) (howMany-less n t) in
+      ⊎-elim (λ (q : i ≡ n). rw q t) (λ (q : i ≢ n). none-passes n (omega arith) i (omega arith)) (same-or i n))
+
+  below-zero : howMany (below 0) p ≡ 0
+  unfolding those span
+  below-zero = refl
+
+  pub none-counted : (n : ℕ) → Below n (λ i. p i ≡ false) → howMany (below n) p ≡ 0
+  none-counted zero f = below-zero
+  none-counted (suc n) f = rw (← add-one n) (howMany-less n (f n (omega arith)) ∙ none-counted n (λ i h. f i (omega arith)))

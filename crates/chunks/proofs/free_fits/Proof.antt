@@ -1,0 +1,64 @@
+use Rattle.lists.proofs.Decides.{decided-true, decided-false}
+use borrow.Author.Tests.{not-true, not-false}
+use borrow.Author.Needs.{needs}
+use lib.ListN.{length}
+use Rattle.layout.specs.Tiers.{tiers}
+use Rattle.chains.specs.Chains.{follow}
+use Rattle.chains.proofs.Along.{free-tiers}
+use Rattle.chunks.proofs.Through.{through-in, through-less, through-lost, through-all}
+use Rattle.chunks.proofs.Sums.{Freeing, free-starts, free-turns, free-right, free-marked}
+use Rattle.chunks.proofs.free_fits.Statement.{statement}
+use Rattle.chunks.proofs.free_fits.Tie as tie
+
+abbrev Inv-loop : tie.InvT-loop
+Inv-loop z img t₀ t = Freeing z img t
+
+abbrev μ-loop : tie.MeasureT-loop
+μ-loop z img t₀ t = length (follow z img (tiers z) t)
+
+first-free-requires : tie.Need-first-free-requires Inv-loop μ-loop
+first-free-requires c κs = search needs
+
+loop-holds : tie.Need-loop-holds Inv-loop μ-loop
+loop-holds c = free-starts (c .before .before .args .z) (c .before .before .args .img .now) (c .before .before .pre .1) (c .first-free .ensures)
+
+slots-empty-requires : tie.Need-slots-empty-requires Inv-loop μ-loop
+slots-empty-requires c κs = (c .before .before .before .before .pre .0, free-tiers (c .before .before .before .before .args .z) (c .before .before .before .before .args .img .now) (c .before .before .before .before .pre .1) _ (through-in (c .before .before .before .before .args .z) (c .before .before .before .before .args .img .now) (c .before .loop .inv .1) (c .loop-test .taken)))
+
+returns : tie.Need-returns Inv-loop μ-loop
+returns c = through-lost (c .before .before .before .before .before .before .args .z) (c .before .before .before .before .before .before .args .img .now) (c .before .before .before .loop .inv .1) (c .before .before .loop-test .taken) (λ f. decided-false (c .before .slots-empty .result) (c .before .slots-empty .ensures) (not-true _ (c .if1 .taken)) (f .slotsEmpty))
+
+marked-in-requires : tie.Need-marked-in-requires Inv-loop μ-loop
+marked-in-requires c κs = (c .before .before .before .before .before .before .pre .0, free-tiers (c .before .before .before .before .before .before .args .z) (c .before .before .before .before .before .before .args .img .now) (c .before .before .before .before .before .before .pre .1) _ (through-in (c .before .before .before .before .before .before .args .z) (c .before .before .before .before .before .before .args .img .now) (c .before .before .before .loop .inv .1) (c .before .before .loop-test .taken)))
+
+returns-2 : tie.Need-returns-2 Inv-loop μ-loop
+returns-2 c = through-lost (c .before .before .before .before .before .before .before .before .args .z) (c .before .before .before .before .before .before .before .before .args .img .now) (c .before .before .before .before .before .loop .inv .1) (c .before .before .before .before .loop-test .taken) (free-marked (c .before .before .before .before .before .before .before .before .args .z) (c .before .before .before .before .before .before .before .before .args .img .now) (c .before .marked-in .ensures) (c .if2 .taken))
+
+next-of-requires : tie.Need-next-of-requires Inv-loop μ-loop
+next-of-requires c κs = (c .before .before .before .before .before .before .before .before .pre .0, free-tiers (c .before .before .before .before .before .before .before .before .args .z) (c .before .before .before .before .before .before .before .before .args .img .now) (c .before .before .before .before .before .before .before .before .pre .1) _ (through-in (c .before .before .before .before .before .before .before .before .args .z) (c .before .before .before .before .before .before .before .before .args .img .now) (c .before .before .before .before .before .loop .inv .1) (c .before .before .before .before .loop-test .taken)))
+
+loop-less : tie.Need-loop-less Inv-loop μ-loop
+loop-less c = through-less (c .before .before .before .before .before .before .before .before .before .args .z) (c .before .before .before .before .before .before .before .before .before .args .img .now) (c .before .before .before .before .before .before .loop .inv .1) (c .before .before .before .before .before .loop-test .taken) (c .next-of .ensures)
+
+loop-again : tie.Need-loop-again Inv-loop μ-loop
+loop-again c = free-turns (c .before .before .before .before .before .before .before .before .before .args .z) (c .before .before .before .before .before .before .before .before .before .args .img .now) (c .before .before .before .before .before .before .loop .inv) (c .before .before .before .before .before .loop-test .taken) (free-right (c .before .before .before .before .before .before .before .before .before .args .z) (c .before .before .before .before .before .before .before .before .before .args .img .now) (decided-true (c .before .before .before .before .slots-empty .result) (c .before .before .before .before .slots-empty .ensures) (not-false _ (c .before .before .before .if1 .left))) (c .before .before .marked-in .ensures) (c .before .if2 .left)) (c .next-of .ensures)
+
+returns-3 : tie.Need-returns-3 Inv-loop μ-loop
+returns-3 c = through-all (c .before .before .before .before .args .z) (c .before .before .before .before .args .img .now) (c .before .loop .inv .1) (c .loop-test .left)
+
+pub free-fits-spec : {M : Type 1} → statement M
+free-fits-spec =
+    tie.close
+    (tie.spec
+    Inv-loop
+    μ-loop
+    first-free-requires
+    loop-holds
+    slots-empty-requires
+    returns
+    marked-in-requires
+    returns-2
+    next-of-requires
+    loop-less
+    loop-again
+    returns-3)

@@ -1,0 +1,90 @@
+-- Chunks and counters: refusal 7.
+use Prim.Native.Nat.{ℕ, _+_}
+use mathlib.Core.List.{List}
+use mathlib.Core.Path.{_≡_}
+use mathlib.Core.Bool.{Bool, true, false, _&&_}
+use native.Mathlib.Decide.{ℕ-discrete}
+use lib.Dec.{leb, ltb, eqb}
+use lib.ListN.{length}
+use Rattle.lists.specs.Lists.{below, first, howMany, total, orElse}
+use Rattle.lists.specs.Decide.{rule}
+use Rattle.lists.specs.Quantify.{Below, Every, below?, every?}
+use Rattle.settings.specs.declared.Settings.{Settings}
+use Rattle.layout.specs.declared.Shape.{Shape}
+use Rattle.layout.specs.Places.{get, mark, lowPlace, countPlace}
+use Rattle.chains.specs.Chains.{chain, chained, freeChain}
+use Rattle.entries.specs.declared.Live.{Live}
+use Rattle.entries.specs.Live.{slotAt, fullSlots, liveIn, live}
+use Rattle.chunks.specs.declared.Chunks.{Chunks}
+use Rattle.chunks.specs.declared.Chunks.the-variants.{Fit, Broken}
+
+-- the entry covers chunk i
+abbrev pub covers : ℕ → Live → Bool
+covers i e = leb (e .chunk) i && ltb i (e .chunk + e .chunks)
+
+module _ (z : Shape) (img : List ℕ) where
+  open Shape z using (settings)
+  open Settings settings using (segments, slots, chunks)
+
+  abbrev pub clear : ℕ → ℕ → Bool
+  clear t i = eqb (mark z img t i) 0
+
+  -- the lowest clear chunk, or N if none
+  unfoldable pub lowestClear : ℕ → ℕ
+  lowestClear t = orElse (first (below chunks) (clear t)) chunks
+
+  -- the lowest free chunk field of a tier
+  abbrev pub LowMarkFits : ℕ → Type 0
+  LowMarkFits t = get z img (lowPlace z t) ≡ lowestClear t
+
+  -- ---- the rules
+
+  pub record TierFits (s t : ℕ) : Type 0 where
+    -- a marked chunk is covered by one entry, a clear one by none
+    pub marks : Below chunks (λ i. howMany (liveIn z img s t) (covers i) ≡ mark z img t i)
+    pub entryCount : get z img (countPlace z t) ≡ length (fullSlots z img t)
+    pub lowMark : LowMarkFits t
+
+  pub record FreeTierFits (t : ℕ) : Type 0 where
+    pub slotsEmpty : Below slots (λ j. slotAt z img t j ≡ 0)
+    pub chunksClear : Below chunks (λ i. mark z img t i ≡ 0)
+
+  pub record ChunksFit : Type 0 where
+    pub tiersFit : Below segments (λ s. Every (chain z img s) (TierFits s))
+    pub freeFit : Every (freeChain z img) FreeTierFits
+
+  -- ---- decided
+
+  unfoldable pub tierFits? : (s t : ℕ) → Dec (TierFits s t)
+  tierFits? s t =
+      rule (λ v. v .marks) (below? (λ i. howMany (liveIn z img s t) (covers i) ≡ mark z img t i) (λ i. ℕ-discrete (howMany (liveIn z img s t) (covers i)) (mark z img t i)) chunks) λ a.
+      rule (λ v. v .entryCount) (ℕ-discrete (get z img (countPlace z t)) (length (fullSlots z img t))) λ b.
+      rule (λ v. v .lowMark) (ℕ-discrete (get z img (lowPlace z t)) (lowestClear t)) λ c.
+      yes (record { marks = a; entryCount = b; lowMark = c })
+
+  unfoldable pub freeTierFits? : (t : ℕ) → Dec (FreeTierFits t)
+  freeTierFits? t =
+      rule (λ v. v .slotsEmpty) (below? (λ j. slotAt z img t j ≡ 0) (λ j. ℕ-discrete (slotAt z img t j) 0) slots) λ a.
+      rule (λ v. v .chunksClear) (below? (λ i. mark z img t i ≡ 0) (λ i. ℕ-discrete (mark z img t i) 0) chunks) λ b.
+      yes (record { slotsEmpty = a; chunksClear = b })
+
+  unfoldable pub chunksFit? : Dec ChunksFit
+  chunksFit? =
+      rule (λ v. v .tiersFit) (below? (λ s. Every (chain z img s) (TierFits s)) (λ s. every? (TierFits s) (tierFits? s) (chain z img s)) segments) λ a.
+      rule (λ v. v .freeFit) (every? FreeTierFits freeTierFits? (freeChain z img)) λ b.
+      yes (record { tiersFit = a; freeFit = b })
+
+  -- ---- the answer, with the counts: live entries, and chunks whose bit is 1 in chained tiers
+
+  unfoldable pub markedIn : ℕ → ℕ
+  markedIn t = howMany (below chunks) (λ i. eqb (mark z img t i) 1)
+
+  unfoldable pub markedChunks : ℕ
+  markedChunks = total (chained z img) markedIn
+
+  unfoldable pub fromChunks : Dec ChunksFit → Chunks
+  fromChunks (no _) = Broken
+  fromChunks (yes _) = Fit (length (live z img)) markedChunks
+
+  unfoldable pub chunksOf : Chunks
+  chunksOf = fromChunks chunksFit?

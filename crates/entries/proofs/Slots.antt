@@ -1,0 +1,77 @@
+-- A slot's parts and the slot that has them, over every count of bits. Assumes nothing.
+use Prim.Native.Nat.{ℕ, zero, suc, _+_, _-_, _*_, _/_, _%_, _^_, _≤_, _<_}
+use mathlib.Core.Path.{_≡_, refl, ap, _∙_}
+use mathlib.Core.Logic.{_≢_}
+use native.Mathlib.Omega.{arith}
+use native.Mathlib.Nat.{add-comm, one-mul, mod-eq-of-lt, mod-lt, div-eq-of-lt, div-lt-iff-lt-mul, pow-suc, lt-of-lt-of-le}
+use lib.Pow.{pow-pos, pow-mono, pow-lt, pow-add, high, low, shl-exact, shr-shr, recompose}
+use lib.Arith.{digits-lt}
+use lib.Bits.{bitAnd, bitOr, and-mask, mask-lt, or-shifted-r}
+use Rattle.settings.specs.declared.Settings.{Settings}
+use Rattle.settings.specs.Rules.{Valid}
+use Rattle.entries.specs.Keys.{slotKey, slotChunk, slotRest, slotWith}
+
+-- ---- the shifts and masks of the code
+
+pub shifted-one : (n : ℕ) → n < 64 → 1 * 2 ^ n % 2 ^ 64 ≡ 2 ^ n
+shifted-one n h = rw one-mul (mod-eq-of-lt (pow-lt {i = n} {j = 64} h))
+
+pub masked : (x n m : ℕ) → m ≡ 2 ^ n - 1 → (bitAnd x m ≡ x % 2 ^ n) × (bitAnd x m < 2 ^ n)
+masked x n m e = rw e (and-mask x n, mask-lt x n)
+
+pub shifted-out : (v n : ℕ) → v < 2 ^ 64 → 64 ≤ n → v / 2 ^ n ≡ 0
+shifted-out v n h k = div-eq-of-lt (lt-of-lt-of-le h (pow-mono {i = 64} {j = n} k))
+
+pub joined : (k v l c : ℕ) → l < 2 ^ k → c < 2 ^ v → k + v ≤ 64 → bitOr l (c * 2 ^ k % 2 ^ 64) ≡ l + c * 2 ^ k
+joined k v l c hl hc fits = rw (shl-exact v k 64 hc (omega arith), or-shifted-r c k l hl) (add-comm (c * 2 ^ k) l)
+
+-- ---- the parts of a joined slot
+
+byte-pow : (n : ℕ) → 256 ^ n ≡ 2 ^ (8 * n)
+byte-pow zero = refl
+byte-pow (suc n) =
+    let e : 8 * suc n ≡ 8 * n + 8 = omega arith in rw (e, pow-suc 256 n, pow-add 2 (8 * n) 8) (ap (λ (x : ℕ). x * 256) (byte-pow n))
+
+module _ (st : Settings) (l c : ℕ) (hl : l < 2 ^ st .keyBits) where
+  open Settings st using (keyBits, chunkBits, slotSize)
+
+  pub key-with : slotKey st (slotWith st l c) ≡ l
+  key-with = rw (add-comm l (c * 2 ^ keyBits)) (low c keyBits hl)
+
+  rest-of-key : slotWith st l c / 2 ^ keyBits ≡ c
+  rest-of-key = rw (add-comm l (c * 2 ^ keyBits)) (high c keyBits hl)
+
+  module _ (hc : c < 2 ^ st .chunkBits) where
+    pub chunk-with : slotChunk st (slotWith st l c) ≡ c
+    chunk-with = rw rest-of-key (mod-eq-of-lt hc)
+
+    pub rest-with : slotRest st (slotWith st l c) ≡ 0
+    rest-with = rw (← shr-shr (slotWith st l c) keyBits chunkBits, rest-of-key) (div-eq-of-lt hc)
+
+    with-lt : slotWith st l c < 2 ^ (chunkBits + keyBits)
+    with-lt = rw (add-comm l (c * 2 ^ keyBits), pow-add 2 chunkBits keyBits) (digits-lt hc hl)
+
+    pub with-fits : Valid st → slotWith st l c < 256 ^ slotSize
+    with-fits v =
+        rw (byte-pow slotSize)
+        (lt-of-lt-of-le with-lt (pow-mono {i = chunkBits + keyBits} {j = 8 * slotSize} (omega (arith, v .chunkBits .1 .0))))
+
+-- it is no empty slot
+pub with-full : (st : Settings) (l c : ℕ) → l ≢ 0 → slotWith st l c ≢ 0
+with-full st l c ne = omega arith
+
+-- ---- the parts of any slot
+
+pub key-lt : (st : Settings) (v : ℕ) → slotKey st v < 2 ^ st .keyBits
+key-lt st v = mod-lt v (pow-pos (st .keyBits))
+
+pub chunk-lt : (st : Settings) (v : ℕ) → slotChunk st v < 2 ^ st .chunkBits
+chunk-lt st v = mod-lt (v / 2 ^ st .keyBits) (pow-pos (st .chunkBits))
+
+-- a slot with nothing above its parts is what they make
+pub with-parts : (st : Settings) (v : ℕ) → slotRest st v ≡ 0 → slotWith st (slotKey st v) (slotChunk st v) ≡ v
+with-parts st v h =
+    let total : v / 2 ^ (st .keyBits + st .chunkBits) < 1 = omega arith in
+    let lt : v < 1 * 2 ^ (st .keyBits + st .chunkBits) = div-lt-iff-lt-mul (pow-pos (st .keyBits + st .chunkBits)) .0 total in
+    let lt′ : v < 2 ^ (st .chunkBits + st .keyBits) = rw (one-mul, add-comm) at lt in
+    add-comm (slotKey st v) (slotChunk st v * 2 ^ st .keyBits) ∙ recompose (st .chunkBits) (st .keyBits) lt′

@@ -1,0 +1,13 @@
+use Rattle.entries.proofs.Slots.{masked}
+use borrow.Author.Needs.{needs}
+use Rattle.entries.proofs.keys.low_bits.Statement.{statement}
+use Rattle.entries.proofs.keys.low_bits.Tie as tie
+
+ones-requires : tie.Need-ones-requires
+ones-requires c κs = search needs
+
+returns : tie.Need-returns
+returns c = masked (c .before .args .x) (c .before .args .n) (c .ones .result) (c .ones .ensures)
+
+pub low-bits-spec : {M : Type 1} → statement M
+low-bits-spec = tie.close (tie.spec ones-requires returns)

@@ -1,0 +1,15 @@
+use Rattle.settings.proofs.Laws.{slotSize-le}
+use Rattle.entries.proofs.Slots.{joined}
+use native.Mathlib.Omega.{arith}
+use borrow.Author.Needs.{needs}
+use Rattle.entries.proofs.keys.slot_with.Statement.{statement}
+use Rattle.entries.proofs.keys.slot_with.Tie as tie
+
+shl-result : tie.Need-shl-result
+shl-result c = search needs
+
+returns : tie.Need-returns
+returns c = joined (c .args .st .keyBits) (c .args .st .chunkBits) (c .args .lookup) (c .args .chunk) (search needs) (search needs) (omega (arith, slotSize-le (c .args .st) (c .pre .0 .slotSize) .1))
+
+pub slot-with-spec : {M : Type 1} → statement M
+slot-with-spec = tie.close (tie.spec shl-result returns)

@@ -1,0 +1,104 @@
+// Entries as they stand in an image.
+use super::Entry;
+use super::Live;
+use super::Stored;
+use layout::Shape;
+use leb128::Decoded;
+ghost use mathlib.Core.Path.{_≡_};
+ghost use Prim.Native.Nat.{_+_, _<_, _≤_};
+ghost use lib.ListN.{length};
+ghost use Rattle.words.specs.Bytes.{cut, same};
+ghost use Rattle.layout.specs.Tiers.{IsTier};
+ghost use Rattle.layout.specs.Frame.{Framed};
+ghost use Rattle.entries.specs.Stored.{stored as Stored·stored, entryOf};
+ghost use Rattle.entries.specs.Live.{chunkOf, entryAt, liveAt};
+
+// Whether the n bytes at an offset are a key's.
+pub fn same_key(img: &[u8], at: usize, n: usize, key: &[u8]) -> bool
+    requires { ⌜ at + n ≤ length (now img) ⌝ }
+    ensures { λ r. ⌜ r ≡ same (cut (now (img .entry)) at n) (now (key .entry)) ⌝ }
+{
+    if n != key.len() {
+        return false;
+    }
+    let mut i = 0;
+    while i < n {
+        if img[at + i] != key[i] {
+            return false;
+        }
+        i += 1;
+    }
+    true
+}
+
+// What stands at chunk c of a tier. Nothing past the tier's chunks is read.
+pub fn stored(z: Shape, img: &[u8], t: usize, c: usize) -> Stored
+    requires { ⌜ Framed z (length (now img)) × IsTier z t ⌝ }
+    ensures { λ r. ⌜ r ≡ Stored·stored z (now (img .entry)) t c ⌝ }
+{
+    if z.settings.chunks <= c {
+        return Stored::Broken;
+    }
+    let end = layout::chunk_at(z, t, z.settings.chunks);
+    let bytes = &img[..end];
+    let Decoded::Number(k, at) = leb128::read(bytes, layout::chunk_at(z, t, c)) else {
+        return Stored::Broken;
+    };
+    let Decoded::Number(v, after) = leb128::read(bytes, at + k) else {
+        return Stored::Broken;
+    };
+    Stored::Whole(Entry {
+        keyAt: at,
+        keyLength: k,
+        valueAt: after,
+        valueLength: v,
+    })
+}
+
+// The entry, with zeros where it cannot be read.
+fn entry_of(s: Stored) -> Entry
+    ensures { λ r. ⌜ r ≡ entryOf s ⌝ }
+{
+    match s {
+        Stored::Whole(e) => e,
+        Stored::Broken => Entry {
+            keyAt: 0,
+            keyLength: 0,
+            valueAt: 0,
+            valueLength: 0,
+        },
+    }
+}
+
+// The first chunk that slot j of a tier names.
+pub fn chunk_of(z: Shape, img: &[u8], t: usize, j: usize) -> usize
+    requires { ⌜ Framed z (length (now img)) × IsTier z t × (j < z .settings .slots) ⌝ }
+    ensures { λ r. ⌜ r ≡ chunkOf z (now (img .entry)) t j ⌝ }
+{
+    super::keys::slot_chunk(z.settings, layout::read::slot(z, img, t, j))
+}
+
+// The entry there.
+pub fn entry_at(z: Shape, img: &[u8], t: usize, j: usize) -> Entry
+    requires { ⌜ Framed z (length (now img)) × IsTier z t × (j < z .settings .slots) ⌝ }
+    ensures { λ r. ⌜ r ≡ entryAt z (now (img .entry)) t j ⌝ }
+{
+    entry_of(stored(z, img, t, chunk_of(z, img, t, j)))
+}
+
+// The live entry of slot j of a tier in segment s's chain.
+pub fn live_at(z: Shape, img: &[u8], s: usize, t: usize, j: usize) -> Live
+    requires { ⌜ Framed z (length (now img)) × IsTier z t × (j < z .settings .slots) ⌝ }
+    ensures { λ r. ⌜ r ≡ liveAt z (now (img .entry)) s t j ⌝ }
+{
+    let chunk = chunk_of(z, img, t, j);
+    let e = entry_of(stored(z, img, t, chunk));
+    Live {
+        segment: s,
+        tier: t,
+        slot: j,
+        chunk,
+        chunks: super::chunks_for(z.settings, e.keyLength, e.valueLength),
+        entry: e,
+    }
+}

@@ -1,0 +1,4 @@
+pub mod Worked
+pub mod Stages
+pub mod Ready
+pub mod Picking

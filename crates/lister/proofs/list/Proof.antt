@@ -1,0 +1,46 @@
+use mathlib.Core.Path.{sym, _∙_}
+use Rattle.lister.proofs.Lines.{ready-lines}
+use borrow.Author.Needs.{needs}
+use Rattle.lister.proofs.list.Statement.{statement}
+use Rattle.lister.proofs.list.Tie as tie
+
+examine-requires : tie.Need-examine-requires
+examine-requires c κs = search needs
+
+enum-known-stage : tie.Need-enum-known-stage
+enum-known-stage c = search needs
+
+refusal-requires : tie.Need-refusal-requires
+refusal-requires c κs = search needs
+
+enum-known-z : tie.Need-enum-known-z
+enum-known-z c = search needs
+
+heading-requires : tie.Need-heading-requires
+heading-requires c κs = search needs
+
+all-requires : tie.Need-all-requires
+all-requires c κs = ready-lines _ _ _ _ (sym (c .before .before .before .before .examine .ensures) ∙ c .before .before .z .given .1)
+
+totals-requires : tie.Need-totals-requires
+totals-requires c κs = search needs
+
+returns : tie.Need-returns
+returns c = search needs
+
+returns-2 : tie.Need-returns-2
+returns-2 c = search needs
+
+pub list-spec : {M : Type 1} → statement M
+list-spec =
+    tie.close
+    (tie.spec
+    examine-requires
+    enum-known-stage
+    refusal-requires
+    enum-known-z
+    heading-requires
+    all-requires
+    totals-requires
+    returns
+    returns-2)

@@ -1,0 +1,144 @@
+-- From the tests of the code to the rules of slots and entries. Assumes nothing.
+use Prim.Native.Nat.{ℕ, zero, suc, _+_, _-_, _≤_, _<_}
+use mathlib.Core.List.{List, [], _∷_, List·Memᴰ}
+use mathlib.Core.Path.{_≡_, refl, ap, ap₂, sym, _∙_, subst}
+use mathlib.Core.Logic.{_≢_}
+use native.Mathlib.Omega.{arith}
+use lib.ListN.{length, take, drop}
+use Rattle.lists.specs.Quantify.{Below, Every}
+use Rattle.words.specs.Bytes.{cut}
+use Rattle.settings.specs.declared.Settings.{Settings}
+use Rattle.layout.specs.declared.Shape.{Shape}
+use Rattle.layout.specs.Tiers.{IsTier}
+use Rattle.layout.specs.Frame.{Framed, Image}
+use Rattle.chains.specs.Chains.{chain}
+use Rattle.entries.specs.declared.Entry.{Entry}
+use Rattle.entries.specs.declared.Stored.{Stored}
+use Rattle.entries.specs.declared.Stored.the-variants.{Whole, Broken}
+use Rattle.entries.specs.Keys.{segmentOf, lookupKey, slotKey, slotChunk, slotRest}
+use Rattle.entries.specs.Stored.{stored, entryOf, keyOf, chunksFor}
+use Rattle.entries.specs.Live.{slotAt, chunkOf, entryAt}
+use Rattle.entries.proofs.Whole.{WholeAt, whole-sound, whole-chunk, key-in-image, entry-small}
+use Rattle.search.specs.declared.Found.{Found}
+use Rattle.search.specs.declared.Found.the-variants.{At, Absent}
+use Rattle.search.specs.Search.{search, ChainTiers}
+use Rattle.search.specs.Rules.{IsWhole, Hashed, keyAt, EntryFits, SlotsFit, SomeEmpty, TierFits, KeysOnce, EntriesFit, LandsIn, Lands}
+use Rattle.search.proofs.Landing.{AllReached, lands-once, lands-all-reached, all-land}
+
+-- ---- the cut of a key, as the code has it: from a place up to another
+
+pub key-cut : (l : List ℕ) (at n : ℕ) → take (at + n - at) (drop at l) ≡ cut l at n
+key-cut l at n = let e : at + n - at ≡ n = omega arith in ap (λ (k : ℕ). take k (drop at l)) e
+
+module _ (z : Shape) (img : List ℕ) (s t j : ℕ) where
+  open Shape z using (settings)
+  open Settings settings using (slots, chunks, mostChunks)
+
+  -- an empty slot is asked nothing; a full one is
+  pub empty-right : {P : Type 0} (v : ℕ) → v ≡ slotAt z img t j → v ≡ 0 → slotAt z img t j ≢ 0 → P
+  empty-right v e q n = absurd (n (sym e ∙ q))
+
+  pub full-wrong : {P : Type 0} (v : ℕ) → v ≡ slotAt z img t j → v ≢ 0 → (P → ⊥) → (slotAt z img t j ≢ 0 → P) → ⊥
+  full-wrong v e n b f = b (f (λ q. n (e ∙ q)))
+
+  module _ (v c : ℕ) (ev : v ≡ slotAt z img t j) (ec : c ≡ slotChunk settings v) where
+    chunk-is : c ≡ chunkOf z img t j
+    chunk-is = ec ∙ ap (slotChunk settings) ev
+
+    pub fits-broken : stored z img t c ≡ Broken → EntryFits z img s t j → ⊥
+    fits-broken b f = subst IsWhole (ap (stored z img t) (sym chunk-is) ∙ b) (f .whole)
+
+    module _ (e : Entry) (w : stored z img t c ≡ Whole e) where
+      entry-is : entryAt z img t j ≡ e
+      unfolding entryAt
+      entry-is = ap (λ (k : ℕ). entryOf (stored z img t k)) (sym chunk-is) ∙ ap entryOf w
+
+      pub sound : WholeAt z img t c e
+      sound = whole-sound z img t c e w
+
+      pub small : (e .keyLength ≤ 65535) × (e .valueLength ≤ 65535)
+      small = (sound .keySmall, sound .valueSmall)
+
+      pub key-short : e .keyLength < 1 → EntryFits z img s t j → ⊥
+      key-short h f = omega (arith, f .keyLength, ap (λ (x : Entry). x .keyLength) entry-is)
+
+      pub key-long : 1024 < e .keyLength → EntryFits z img s t j → ⊥
+      key-long h f = omega (arith, f .keyLength, ap (λ (x : Entry). x .keyLength) entry-is)
+
+      chunks-is : (n : ℕ) → n ≡ chunksFor settings (e .keyLength) (e .valueLength) → n ≡ chunksFor settings (entryAt z img t j .keyLength) (entryAt z img t j .valueLength)
+      chunks-is n q = q ∙ ap (λ (x : Entry). chunksFor settings (x .keyLength) (x .valueLength)) (sym entry-is)
+
+      pub too-many : (n : ℕ) → n ≡ chunksFor settings (e .keyLength) (e .valueLength) → mostChunks < n → EntryFits z img s t j → ⊥
+      too-many n q h f = omega (arith, f .notTooMany, chunks-is n q)
+
+      pub too-far : (n : ℕ) → n ≡ chunksFor settings (e .keyLength) (e .valueLength) → chunks < c + n → EntryFits z img s t j → ⊥
+      too-far n q h f = omega (arith, f .rangeEnds, chunks-is n q, chunk-is)
+
+      key-is : keyOf img e ≡ keyAt z img t j
+      unfolding keyAt
+      key-is = ap (keyOf img) (sym entry-is)
+
+      pub hash-wrong : (Hashed settings s v (keyOf img e) → ⊥) → EntryFits z img s t j → ⊥
+      hash-wrong b f = b (rw (ev, key-is) (f .hashed))
+
+      pub entry-right : slotRest settings v ≡ 0 → 1 ≤ e .keyLength → e .keyLength ≤ 1024 → (n : ℕ) → n ≡ chunksFor settings (e .keyLength) (e .valueLength) → n ≤ mostChunks
+          → c + n ≤ chunks → Hashed settings s v (keyOf img e) → EntryFits z img s t j
+      entry-right r lo hi n q most end h =
+          let ke : entryAt z img t j .keyLength ≡ e .keyLength = ap (λ (x : Entry). x .keyLength) entry-is in
+          let ve : entryAt z img t j .valueLength ≡ e .valueLength = ap (λ (x : Entry). x .valueLength) entry-is in
+          record {
+            higherBits = ap (slotRest settings) (sym ev) ∙ r;
+            chunkIn = omega (arith, whole-chunk z img t c sound, chunk-is);
+            whole = subst IsWhole (sym (ap (stored z img t) (sym chunk-is) ∙ w)) tt;
+            keyLength = omega arith;
+            valueLength = omega (arith, sound .valueSmall);
+            notTooMany = omega (arith, chunks-is n q);
+            rangeEnds = omega (arith, chunks-is n q, chunk-is);
+            hashed = rw (ev, key-is) at h;
+          }
+
+-- ---- where a search ended
+
+pub never-both : (r : Found) (t j u k : ℕ) → r ≡ At t j → r ≡ Absent u k → ⊥
+never-both r t j u k p q = let z : _≡_ {A = ℕ} 0 1 = cc in omega arith
+
+pub same-tier : (r : Found) (t j u k : ℕ) → r ≡ At t j → r ≡ At u k → u ≡ t
+same-tier r t j u k p q = cc
+
+pub same-slot : (r : Found) (t j u k : ℕ) → r ≡ At t j → r ≡ At u k → k ≡ j
+same-slot r t j u k p q = cc
+
+module _ (z : Shape) (img : List ℕ) (t j : ℕ) where
+  room-of : Framed z (length img) → IsTier z t → (r : Stored) → stored z img t (chunkOf z img t j) ≡ r → IsWhole r → entryAt z img t j .keyAt + entryAt z img t j .keyLength ≤ length img
+  unfolding entryAt
+  room-of fr is (Whole e) q w =
+      let same : entryAt z img t j ≡ e = ap entryOf q in
+      rw same (key-in-image z img t (chunkOf z img t j) (whole-sound z img t (chunkOf z img t j) e q) fr is)
+  room-of fr is Broken q w = absurd w
+
+  -- the key of a full slot stands within the image
+  pub key-room : Framed z (length img) → IsTier z t → IsWhole (stored z img t (chunkOf z img t j)) → entryAt z img t j .keyAt + entryAt z img t j .keyLength ≤ length img
+  key-room fr is w = room-of fr is (stored z img t (chunkOf z img t j)) refl w
+
+  pub key-part : (e : Entry) → e ≡ entryAt z img t j → take (e .keyAt + e .keyLength - e .keyAt) (drop (e .keyAt) img) ≡ keyAt z img t j
+  unfolding keyAt
+  key-part e q = key-cut img (e .keyAt) (e .keyLength) ∙ ap (keyOf img) q
+
+-- ---- the whole image
+
+module _ (z : Shape) (img : List ℕ) (im : Image z img) (tiersOf : ChainTiers z img) where
+  open Shape z using (settings)
+  open Settings settings using (segments, slots)
+
+  pub all-right : Below segments (λ s. Every (chain z img s) (SlotsFit z img s)) → Below segments (Lands z img) → EntriesFit z img
+  all-right f l =
+      record {
+        tiersFit = λ s h t m. record { slotsFit = f s h t m; reached = lands-all-reached z img im s (tiersOf s h) (f s h) (l s h) t m };
+        keysOnce = λ s h. lands-once z img im s (tiersOf s h) (f s h) (l s h);
+      }
+
+  pub slots-wrong : (Below segments (λ s. Every (chain z img s) (SlotsFit z img s)) → ⊥) → EntriesFit z img → ⊥
+  slots-wrong n e = n (λ s h t m. e .tiersFit s h t m .slotsFit)
+
+  pub lands-wrong : Below segments (λ s. Every (chain z img s) (SlotsFit z img s)) → (Below segments (Lands z img) → ⊥) → EntriesFit z img → ⊥
+  lands-wrong f n e = n (λ s h. all-land z img im s (tiersOf s h) (f s h) (e .keysOnce s h) (λ t m. e .tiersFit s h t m .reached))

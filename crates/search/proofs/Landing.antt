@@ -1,0 +1,195 @@
+-- Each full slot's key is found in that slot exactly where every slot is reached and no key has two slots. Assumes nothing.
+use Prim.Native.Nat.{ℕ, zero, suc, _+_, _≤_, _<_}
+use mathlib.Core.List.{List, [], _∷_, List·Memᴰ, List·Memᴰ·head, List·Memᴰ·tail, List·Memᴰ·cases-cons, List·Memᴰ·not-nil}
+use mathlib.Core.Path.{_≡_, refl, ap, sym, _∙_, subst}
+use mathlib.Core.Logic.{_⊎_, inl, inr, ⊎-elim, _≢_}
+use mathlib.Core.Bool.{Bool, true, false, _&&_, _||_, false≢true}
+use native.Mathlib.Omega.{arith}
+use native.Mathlib.Nat.{mod-lt}
+use lib.Dec.{eqb}
+use lib.ListN.{length}
+use borrow.Author.Tests.{eq-eqb, ne-eqb, eqb-true, eqb-false}
+use Rattle.lists.specs.Cases.{by-test, same-or, lt-or}
+use Rattle.lists.specs.Quantify.{Below, Every}
+use Rattle.words.specs.Bytes.{same}
+use Rattle.words.proofs.Bytes.{same-eq, same-true}
+use Rattle.settings.specs.declared.Settings.{Settings}
+use Rattle.layout.specs.declared.Shape.{Shape}
+use Rattle.layout.specs.Tiers.{IsTier}
+use Rattle.layout.specs.Frame.{Framed, Image}
+use Rattle.chains.specs.Chains.{chain}
+use Rattle.probe.specs.Ring.{dist}
+use Rattle.probe.specs.Table.{Table, Empty, Good, empty}
+use Rattle.probe.specs.Search.{seek, ends}
+use Rattle.probe.proofs.Ring.{dist-inj}
+use Rattle.probe.proofs.Search.{First, seek-first, seek-lt, seek-hit, seek-finds}
+use Rattle.entries.specs.Keys.{segmentOf, lookupKey, start, slotKey, slotChunk}
+use Rattle.entries.specs.Stored.{stored, entryOf, keyOf}
+use Rattle.entries.specs.Live.{slotAt, chunkOf, entryAt}
+use Rattle.search.specs.declared.Found.{Found}
+use Rattle.search.specs.declared.Found.the-variants.{At, Absent}
+use Rattle.search.specs.Search.{slotsOf, hits, seekIn, searchFrom, search}
+use Rattle.search.specs.Rules.{keyAt, startAt, Reached, EntryFits, SomeEmpty, SlotsFit, TierFits, KeyOnce, KeysOnce, Lands}
+use Rattle.search.proofs.Slots.{slots-lawful}
+
+module _ (z : Shape) (img : List ℕ) where
+  open Shape z using (settings)
+  open Settings settings using (segments, slots)
+
+  -- ---- what a hit is
+
+  pub hits-key : (key : List ℕ) (t j : ℕ) → hits z img key t (slotAt z img t j) ≡ true → keyAt z img t j ≡ key
+  unfolding hits keyAt entryAt
+  hits-key key t j h =
+      by-test (eqb (slotKey settings (slotAt z img t j)) (lookupKey settings key))
+      (λ e. same-true _ key (rw e at h))
+      (λ e. absurd (false≢true (rw e at h)))
+
+  pub hits-own : (key : List ℕ) (t j : ℕ) → slotKey settings (slotAt z img t j) ≡ lookupKey settings key → keyAt z img t j ≡ key
+      → hits z img key t (slotAt z img t j) ≡ true
+  unfolding hits keyAt entryAt
+  hits-own key t j e k = rw (eq-eqb _ _ e, hits) (same-eq _ key k)
+
+  -- ---- the search, tier by tier
+
+  module _ (key : List ℕ) where
+    pub search-here : (u i t : ℕ) (ts : List ℕ) → slotAt z img t (seekIn z img key t) ≢ 0 → searchFrom z img key u i (t ∷ ts) ≡ At t (seekIn z img key t)
+    unfolding searchFrom
+    search-here u i t ts h = rw (ne-eqb _ _ h, searchFrom)
+
+    pub search-on : (u i t : ℕ) (ts : List ℕ) → slotAt z img t (seekIn z img key t) ≡ 0 → searchFrom z img key u i (t ∷ ts) ≡ searchFrom z img key t (seekIn z img key t) ts
+    unfolding searchFrom
+    search-on u i t ts h = rw (eq-eqb _ _ h, searchFrom)
+
+    pub search-end : (u i : ℕ) → searchFrom z img key u i [] ≡ Absent u i
+    unfolding searchFrom
+    search-end u i = refl
+
+    -- what is found is where the search in its tier ended
+    pub found-at : (u i : ℕ) (ts : List ℕ) (t j : ℕ) → searchFrom z img key u i ts ≡ At t j → (seekIn z img key t ≡ j) × ((slotAt z img t j ≢ 0) × List·Memᴰ t ts)
+    found-at u i [] t j e = absurd (let f : Absent u i ≡ At t j = sym (search-end u i) ∙ e in let q : _≡_ {A = ℕ} 0 1 = cc in omega arith)
+    found-at u i (x ∷ ts) t j e =
+        ⊎-elim
+        (λ (h : slotAt z img x (seekIn z img key x) ≡ 0).
+        let r : (seekIn z img key t ≡ j) × ((slotAt z img t j ≢ 0) × List·Memᴰ t ts) = found-at x (seekIn z img key x) ts t j (sym (search-on u i x ts h) ∙ e) in
+        (r .0, (r .1 .0, List·Memᴰ·tail (r .1 .1))))
+        (λ (h : slotAt z img x (seekIn z img key x) ≢ 0).
+        let f : At x (seekIn z img key x) ≡ At t j = sym (search-here u i x ts h) ∙ e in
+        let p : x ≡ t = cc in
+        let q : seekIn z img key x ≡ j = cc in
+        (rw p at q, (rw (q, p) at h, List·Memᴰ·head (sym p))))
+        (same-or (slotAt z img x (seekIn z img key x)) 0)
+
+  -- ---- in an image whose slots fit one by one
+
+  module _ (im : Image z img) (t : ℕ) (is : IsTier z t) (some : SomeEmpty z img t) where
+    some-empty : Empty (slotsOf z t) img (some .0)
+    some-empty = record { lt = some .1 .0; free = some .1 .1 }
+
+    start-lt : (lookup : ℕ) → start settings lookup < slots
+    start-lt lookup = mod-lt lookup (omega (arith, im .framed .valid .slots))
+
+    module _ (key : List ℕ) where
+      first : First slots (ends (slotsOf z t) (hits z img key t) img) (start settings (lookupKey settings key)) (seekIn z img key t)
+      unfolding seekIn
+      first = seek-first (slotsOf z t) (slots-lawful (im .framed) t is) img _ (some .0) (start-lt _) some-empty (hits z img key t)
+
+      pub seek-in-lt : seekIn z img key t < slots
+      seek-in-lt = first .lt
+
+      -- a full slot where the search ends stands for the key
+      pub seek-key : slotAt z img t (seekIn z img key t) ≢ 0 → keyAt z img t (seekIn z img key t) ≡ key
+      unfolding seekIn
+      seek-key ne =
+          hits-key key t (seekIn z img key t)
+          (seek-hit (slotsOf z t) (slots-lawful (im .framed) t is) img _ (some .0) (start-lt _) some-empty (hits z img key t) ne)
+
+      -- no slot on the way is empty
+      pub way-full : (k : ℕ) → k < slots → dist slots (start settings (lookupKey settings key)) k < dist slots (start settings (lookupKey settings key)) (seekIn z img key t)
+          → slotAt z img t k ≢ 0
+      way-full k h d e =
+          let b : ends (slotsOf z t) (hits z img key t) img k ≡ false = first .before k h d in
+          false≢true (sym b ∙ rw (eq-eqb (slotAt z img t k) 0 e))
+
+    -- every full slot is reached: the table is good
+    pub good : Below slots (λ j. slotAt z img t j ≢ 0 → Reached z img t j) → Good (slotsOf z t) img
+    good r j k hj hk fj on = r j hj fj k hk on
+
+    -- a full slot that stands for the key is met
+    pub seek-full : (key : List ℕ) → Below slots (λ j. slotAt z img t j ≢ 0 → Reached z img t j) → (j : ℕ) → j < slots → slotAt z img t j ≢ 0
+        → slotKey settings (slotAt z img t j) ≡ lookupKey settings key → keyAt z img t j ≡ key → slotAt z img t (seekIn z img key t) ≢ 0
+    unfolding seekIn
+    seek-full key r j hj fj l k =
+        seek-finds (slotsOf z t) (slots-lawful (im .framed) t is) img _ (some .0) (start-lt _) some-empty (hits z img key t) (good r) j hj fj
+        (ap (start settings) l)
+        (hits-own key t j l k)
+
+    -- where the key of slot j is found in slot j, slot j is reached
+    pub lands-reached : (j : ℕ) → j < slots → slotAt z img t j ≢ 0 → lookupKey settings (keyAt z img t j) ≡ slotKey settings (slotAt z img t j)
+        → seekIn z img (keyAt z img t j) t ≡ j → Reached z img t j
+    lands-reached j hj fj l e k hk d =
+        let a : ℕ = startAt z img t j in
+        let s : start settings (lookupKey settings (keyAt z img t j)) ≡ a = ap (start settings) l in
+        ⊎-elim
+        (λ (lt : dist slots a k < dist slots a j).
+        way-full (keyAt z img t j) k hk (rw (s, e) lt))
+        (λ (ge : dist slots a j ≤ dist slots a k).
+        let same-place : k ≡ j = dist-inj slots (start-lt (slotKey settings (slotAt z img t j))) hk hj (omega arith) in
+        rw same-place fj)
+        (lt-or (dist slots a k) (dist slots a j))
+
+  -- ---- a whole chain
+
+  abbrev pub AllReached : ℕ → Type 0
+  AllReached s = Every (chain z img s) (λ t. Below slots (λ j. slotAt z img t j ≢ 0 → Reached z img t j))
+
+  module _ (im : Image z img) (s : ℕ) (tiersOf : Every (chain z img s) (IsTier z)) (fits : Every (chain z img s) (SlotsFit z img s)) where
+    pub lands-once : Lands z img s → KeysOnce z img s
+    lands-once l t mt j hj fj u mu k hk fk e =
+        let a : search z img (keyAt z img t j) ≡ At t j = l t mt j hj fj in
+        let b : search z img (keyAt z img u k) ≡ At u k = l u mu k hk fk in
+        let c : At t j ≡ At u k = sym a ∙ ap (search z img) e ∙ b in
+        let p : t ≡ u = cc in
+        let q : j ≡ k = cc in
+        (p, q)
+
+    pub lands-all-reached : Lands z img s → AllReached s
+    unfolding search
+    lands-all-reached l t mt j hj fj =
+        lands-reached im t (tiersOf t mt) (fits t mt .someEmpty) j hj fj (fits t mt .full j hj fj .hashed .lookupAgrees)
+        (found-at (keyAt z img t j) 0 0 (chain z img (segmentOf settings (keyAt z img t j))) t j (l t mt j hj fj) .0)
+
+    -- the search through the tiers ts of the chain, of which t is one
+    module _ (once : KeysOnce z img s) (reached : AllReached s) (t : ℕ) (mt : List·Memᴰ t (chain z img s)) (j : ℕ) (hj : j < slots) (fj : slotAt z img t j ≢ 0) where
+      lands-from : (ts : List ℕ) → Every ts (λ u. List·Memᴰ u (chain z img s)) → List·Memᴰ t ts → (u i : ℕ)
+          → searchFrom z img (keyAt z img t j) u i ts ≡ At t j
+      lands-from [] part m u i = absurd (List·Memᴰ·not-nil m)
+      lands-from (x ∷ ts) part m u i =
+          let mx : List·Memᴰ x (chain z img s) = part x (List·Memᴰ·head refl) in
+          let k : ℕ = seekIn z img (keyAt z img t j) x in
+          let lt : k < slots = seek-in-lt im x (tiersOf x mx) (fits x mx .someEmpty) (keyAt z img t j) in
+          ⊎-elim
+          (λ (h : slotAt z img x k ≡ 0).
+          ⊎-elim
+          (λ (e : t ≡ x).
+          absurd
+          (seek-full im t (tiersOf t mt) (fits t mt .someEmpty) (keyAt z img t j) (reached t mt) j hj fj (sym (fits t mt .full j hj fj .hashed .lookupAgrees)) refl
+          (rw (← e) at h)))
+          (λ (mr : List·Memᴰ t ts). search-on (keyAt z img t j) u i x ts h ∙ lands-from ts (λ y my. part y (List·Memᴰ·tail my)) mr x k)
+          (List·Memᴰ·cases-cons m))
+          (λ (h : slotAt z img x k ≢ 0).
+          let own : keyAt z img x k ≡ keyAt z img t j = seek-key im x (tiersOf x mx) (fits x mx .someEmpty) (keyAt z img t j) h in
+          let same-slot : (t ≡ x) × (j ≡ k) = once t mt j hj fj x mx k lt h (sym own) in
+          let p : t ≡ x = same-slot .0 in
+          let q : j ≡ k = same-slot .1 in
+          search-here (keyAt z img t j) u i x ts h ∙ sym (cc))
+          (same-or (slotAt z img x k) 0)
+
+      pub lands : search z img (keyAt z img t j) ≡ At t j
+      unfolding search
+      lands =
+          let e : segmentOf settings (keyAt z img t j) ≡ s = fits t mt .full j hj fj .hashed .segmentAgrees in
+          rw e (lands-from (chain z img s) (λ y my. my) mt 0 0)
+
+    pub all-land : KeysOnce z img s → AllReached s → Lands z img s
+    all-land once reached t mt j hj fj = lands once reached t mt j hj fj

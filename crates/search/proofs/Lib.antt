@@ -1,0 +1,4 @@
+pub mod Slots
+pub mod Landing
+pub mod Seeking
+pub mod Fitting

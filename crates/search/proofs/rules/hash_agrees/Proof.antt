@@ -1,0 +1,59 @@
+use mathlib.Core.Path.{sym, ap, _∙_}
+use Rattle.xxh64.specs.Hash.{xxh64 as hash}
+use Rattle.entries.specs.Keys.{segmentOf, segmentOfHash, lookupKey, lookupOfHash}
+use Rattle.search.proofs.Fitting.{key-cut}
+use borrow.Author.Needs.{needs}
+use Rattle.search.proofs.rules.hash_agrees.Statement.{statement}
+use Rattle.search.proofs.rules.hash_agrees.Tie as tie
+
+add-to : tie.Need-add-to
+add-to c = search needs
+
+sub-xxh64 : tie.Need-sub-xxh64
+sub-xxh64 c = search needs
+
+part-xxh64-start : tie.Need-part-xxh64-start
+part-xxh64-start c = search needs
+
+part-xxh64-end : tie.Need-part-xxh64-end
+part-xxh64-end c = search needs
+
+xxh64-requires : tie.Need-xxh64-requires
+xxh64-requires c κs = search needs
+
+segment-of-hash-requires : tie.Need-segment-of-hash-requires
+segment-of-hash-requires c κs = search needs
+
+returns : tie.Need-returns
+unfolding segmentOf lookupKey
+returns c = λ f. c .if1 .taken (c .before .segment-of-hash .ensures .0 ∙ ap (segmentOfHash (c .before .before .before .before .before .before .before .args .z .settings)) (c .before .before .xxh64 .ensures ∙ ap hash (key-cut (c .before .before .before .before .before .before .before .args .img .now) (c .before .before .before .before .before .before .before .args .e .keyAt) (c .before .before .before .before .before .before .before .args .e .keyLength))) ∙ f .segmentAgrees)
+
+lookup-of-hash-requires : tie.Need-lookup-of-hash-requires
+lookup-of-hash-requires c κs = search needs
+
+slot-key-requires : tie.Need-slot-key-requires
+slot-key-requires c κs = search needs
+
+returns-2 : tie.Need-returns-2
+unfolding segmentOf lookupKey
+returns-2 c = λ f. c .if2 .taken (c .before .before .lookup-of-hash .ensures .0 ∙ ap (lookupOfHash (c .before .before .before .before .before .before .before .before .before .before .args .z .settings)) (c .before .before .before .before .before .xxh64 .ensures ∙ ap hash (key-cut (c .before .before .before .before .before .before .before .before .before .before .args .img .now) (c .before .before .before .before .before .before .before .before .before .before .args .e .keyAt) (c .before .before .before .before .before .before .before .before .before .before .args .e .keyLength))) ∙ f .lookupAgrees ∙ sym (c .before .slot-key .ensures))
+
+returns-3 : tie.Need-returns-3
+unfolding segmentOf lookupKey
+returns-3 c = record { segmentAgrees = sym (c .before .before .before .before .segment-of-hash .ensures .0 ∙ ap (segmentOfHash (c .before .before .before .before .before .before .before .before .before .before .args .z .settings)) (c .before .before .before .before .before .xxh64 .ensures ∙ ap hash (key-cut (c .before .before .before .before .before .before .before .before .before .before .args .img .now) (c .before .before .before .before .before .before .before .before .before .before .args .e .keyAt) (c .before .before .before .before .before .before .before .before .before .before .args .e .keyLength)))) ∙ c .before .before .before .if1 .left; lookupAgrees = sym (c .before .before .lookup-of-hash .ensures .0 ∙ ap (lookupOfHash (c .before .before .before .before .before .before .before .before .before .before .args .z .settings)) (c .before .before .before .before .before .xxh64 .ensures ∙ ap hash (key-cut (c .before .before .before .before .before .before .before .before .before .before .args .img .now) (c .before .before .before .before .before .before .before .before .before .before .args .e .keyAt) (c .before .before .before .before .before .before .before .before .before .before .args .e .keyLength)))) ∙ c .if2 .left ∙ c .before .slot-key .ensures }
+
+pub hash-agrees-spec : {M : Type 1} → statement M
+hash-agrees-spec =
+    tie.close
+    (tie.spec
+    add-to
+    sub-xxh64
+    part-xxh64-start
+    part-xxh64-end
+    xxh64-requires
+    segment-of-hash-requires
+    returns
+    lookup-of-hash-requires
+    slot-key-requires
+    returns-2
+    returns-3)

@@ -1,0 +1,53 @@
+use Rattle.lists.proofs.Decides.{decided-true, decided-false}
+use borrow.Author.Tests.{not-true, not-false}
+use borrow.Author.Needs.{needs}
+use Rattle.lists.proofs.Upto.{Upto, upto-starts, upto-broken, upto-turns, upto-ends}
+use Prim.Native.Nat.{_-_, _<_}
+use mathlib.Core.Logic.{_≢_}
+use Rattle.entries.specs.Live.{slotAt}
+use mathlib.Core.Path.{_≡_}
+use Rattle.search.specs.declared.Found.the-variants.{At}
+use Rattle.search.specs.Rules.{keyAt}
+use Rattle.search.proofs.rules.tier_lands.Statement.{statement}
+use Rattle.search.proofs.rules.tier_lands.Tie as tie
+
+abbrev Inv-loop : tie.InvT-loop
+Inv-loop z img s t j₀ j = Upto (λ i. slotAt z img t i ≢ 0 → Rattle.search.specs.Search.search z img (keyAt z img t i) ≡ At t i) (z .settings .slots) j
+
+abbrev μ-loop : tie.MeasureT-loop
+μ-loop z img s t j₀ j = z .settings .slots - j
+
+loop-holds : tie.Need-loop-holds Inv-loop μ-loop
+loop-holds c = upto-starts (λ i. slotAt (c .before .args .z) (c .before .args .img .now) (c .before .args .t) i ≢ 0 → Rattle.search.specs.Search.search (c .before .args .z) (c .before .args .img .now) (keyAt (c .before .args .z) (c .before .args .img .now) (c .before .args .t) i) ≡ At (c .before .args .t) i) (c .before .args .z .settings .slots)
+
+lands-requires : tie.Need-lands-requires Inv-loop μ-loop
+lands-requires c κs = search needs
+
+returns : tie.Need-returns Inv-loop μ-loop
+returns c = upto-broken (λ i. slotAt (c .before .before .before .before .before .before .args .z) (c .before .before .before .before .before .before .args .img .now) (c .before .before .before .before .before .before .args .t) i ≢ 0 → Rattle.search.specs.Search.search (c .before .before .before .before .before .before .args .z) (c .before .before .before .before .before .before .args .img .now) (keyAt (c .before .before .before .before .before .before .args .z) (c .before .before .before .before .before .before .args .img .now) (c .before .before .before .before .before .before .args .t) i) ≡ At (c .before .before .before .before .before .before .args .t) i) (c .before .before .before .before .before .before .args .z .settings .slots) (c .before .before .before .before .loop .j) (c .before .before .if1 .taken) (decided-false (c .before .lands .result) (c .before .lands .ensures) (not-true _ (c .if2 .taken)))
+
+add-j : tie.Need-add-j Inv-loop μ-loop
+add-j c = search needs
+
+loop-less : tie.Need-loop-less Inv-loop μ-loop
+loop-less c = search needs
+
+loop-again : tie.Need-loop-again Inv-loop μ-loop
+loop-again c = upto-turns (λ i. slotAt (c .before .before .before .before .before .before .args .z) (c .before .before .before .before .before .before .args .img .now) (c .before .before .before .before .before .before .args .t) i ≢ 0 → Rattle.search.specs.Search.search (c .before .before .before .before .before .before .args .z) (c .before .before .before .before .before .before .args .img .now) (keyAt (c .before .before .before .before .before .before .args .z) (c .before .before .before .before .before .before .args .img .now) (c .before .before .before .before .before .before .args .t) i) ≡ At (c .before .before .before .before .before .before .args .t) i) (c .before .before .before .before .before .before .args .z .settings .slots) (c .before .before .before .before .loop .inv) (c .before .before .if1 .taken) (decided-true (c .before .lands .result) (c .before .lands .ensures) (not-false _ (c .if2 .left)))
+
+returns-2 : tie.Need-returns-2 Inv-loop μ-loop
+returns-2 c = upto-ends (λ i. slotAt (c .before .before .before .before .args .z) (c .before .before .before .before .args .img .now) (c .before .before .before .before .args .t) i ≢ 0 → Rattle.search.specs.Search.search (c .before .before .before .before .args .z) (c .before .before .before .before .args .img .now) (keyAt (c .before .before .before .before .args .z) (c .before .before .before .before .args .img .now) (c .before .before .before .before .args .t) i) ≡ At (c .before .before .before .before .args .t) i) (c .before .before .before .before .args .z .settings .slots) (c .before .before .loop .inv) (c .if1 .left)
+
+pub tier-lands-spec : {M : Type 1} → statement M
+tier-lands-spec =
+    tie.close
+    (tie.spec
+    Inv-loop
+    μ-loop
+    loop-holds
+    lands-requires
+    returns
+    add-j
+    loop-less
+    loop-again
+    returns-2)

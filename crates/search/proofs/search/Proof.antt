@@ -1,0 +1,84 @@
+use native.Mathlib.Omega.{arith}
+use mathlib.Core.Path.{refl, ap, _∙_}
+use Rattle.layout.proofs.Bounds.{framed-bounded}
+use Rattle.entries.specs.Keys.{segmentOfHash, segmentOf, lookupOfHash, lookupKey}
+use borrow.Author.Needs.{needs}
+use Rattle.search.proofs.Seeking.{Searching, search-starts, searching-ends, searching-out, searching-tier, searching-found, searching-turns}
+use Prim.Native.Nat.{_-_}
+use Rattle.search.proofs.search.Statement.{statement}
+use Rattle.search.proofs.search.Tie as tie
+
+abbrev Inv-loop : tie.InvT-loop
+Inv-loop z img key h lookup most t₀ tier₀ slot₀ k₀ t tier slot k = Searching z img key most t tier slot k
+
+abbrev μ-loop : tie.MeasureT-loop
+μ-loop z img key h lookup most t₀ tier₀ slot₀ k₀ t tier slot k = most - k
+
+xxh64-requires : tie.Need-xxh64-requires Inv-loop μ-loop
+xxh64-requires c κs = search needs
+
+lookup-of-hash-requires : tie.Need-lookup-of-hash-requires Inv-loop μ-loop
+lookup-of-hash-requires c κs = search needs
+
+tier-count-requires : tie.Need-tier-count-requires Inv-loop μ-loop
+tier-count-requires c κs = framed-bounded (c .before .before .before .before .pre .0)
+
+segment-of-hash-requires : tie.Need-segment-of-hash-requires Inv-loop μ-loop
+segment-of-hash-requires c κs = search needs
+
+add-t : tie.Need-add-t Inv-loop μ-loop
+add-t c = search needs
+
+loop-holds : tie.Need-loop-holds Inv-loop μ-loop
+unfolding segmentOf
+loop-holds c = search-starts (c .before .before .before .before .before .before .args .z) (c .before .before .before .before .before .before .args .img .now) (c .before .before .before .before .before .before .args .key .now) (c .before .tier-count .result) _ (c .segment-of-hash .result) (c .before .tier-count .ensures) refl (c .segment-of-hash .ensures .0 ∙ ap (segmentOfHash (c .before .before .before .before .before .before .args .z .settings)) (c .before .before .before .xxh64 .ensures)) (c .segment-of-hash .ensures .1) (c .before .before .before .before .before .before .pre .1)
+
+returns : tie.Need-returns Inv-loop μ-loop
+returns c = searching-ends (c .before .before .before .before .before .before .before .before .before .args .z) (c .before .before .before .before .before .before .before .before .before .args .img .now) (c .before .before .before .before .before .before .before .before .before .args .key .now) (c .before .before .loop .inv) (c .if1 .taken)
+
+seek-requires : tie.Need-seek-requires Inv-loop μ-loop
+unfolding lookupKey
+seek-requires c κs = (c .before .before .before .before .before .before .before .before .before .pre .0, searching-tier (c .before .before .before .before .before .before .before .before .before .args .z) (c .before .before .before .before .before .before .before .before .before .args .img .now) (c .before .before .before .before .before .before .before .before .before .args .key .now) (c .before .before .loop .inv) (omega arith) (c .if1 .left), c .before .before .before .before .before .lookup-of-hash .ensures .0 ∙ ap (lookupOfHash (c .before .before .before .before .before .before .before .before .before .args .z .settings)) (c .before .before .before .before .before .before .xxh64 .ensures))
+
+slot-requires : tie.Need-slot-requires Inv-loop μ-loop
+slot-requires c κs = (c .before .before .before .before .before .before .before .before .before .before .pre .0, searching-tier (c .before .before .before .before .before .before .before .before .before .before .args .z) (c .before .before .before .before .before .before .before .before .before .before .args .img .now) (c .before .before .before .before .before .before .before .before .before .before .args .key .now) (c .before .before .before .loop .inv) (omega arith) (c .before .if1 .left), c .seek .ensures .1)
+
+returns-2 : tie.Need-returns-2 Inv-loop μ-loop
+returns-2 c = searching-found (c .before .before .before .before .before .before .before .before .before .before .before .before .args .z) (c .before .before .before .before .before .before .before .before .before .before .before .before .args .img .now) (c .before .before .before .before .before .before .before .before .before .before .before .before .args .key .now) (c .before .before .before .before .before .loop .inv) (omega arith) (c .before .before .before .if1 .left) (c .before .before .seek .result) (c .before .slot .result) (c .before .before .seek .ensures .0) (c .before .slot .ensures) (c .if2 .taken)
+
+next-of-requires : tie.Need-next-of-requires Inv-loop μ-loop
+next-of-requires c κs = (c .before .before .before .before .before .before .before .before .before .before .before .before .pre .0, searching-tier (c .before .before .before .before .before .before .before .before .before .before .before .before .args .z) (c .before .before .before .before .before .before .before .before .before .before .before .before .args .img .now) (c .before .before .before .before .before .before .before .before .before .before .before .before .args .key .now) (c .before .before .before .before .before .loop .inv) (omega arith) (c .before .before .before .if1 .left))
+
+add-k : tie.Need-add-k Inv-loop μ-loop
+add-k c = search needs
+
+loop-less : tie.Need-loop-less Inv-loop μ-loop
+loop-less c = search needs
+
+loop-again : tie.Need-loop-again Inv-loop μ-loop
+loop-again c = searching-turns (c .before .before .before .before .before .before .before .before .before .before .before .before .before .args .z) (c .before .before .before .before .before .before .before .before .before .before .before .before .before .args .img .now) (c .before .before .before .before .before .before .before .before .before .before .before .before .before .args .key .now) (c .before .before .before .before .before .before .loop .inv) (omega arith) (c .before .before .before .before .if1 .left) (c .before .before .before .seek .result) (c .before .before .slot .result) (c .before .before .before .seek .ensures .0) (c .before .before .slot .ensures) (c .before .if2 .left) (c .next-of .result) (c .next-of .ensures)
+
+returns-3 : tie.Need-returns-3 Inv-loop μ-loop
+returns-3 c = searching-out (c .before .before .before .before .before .before .before .before .args .z) (c .before .before .before .before .before .before .before .before .args .img .now) (c .before .before .before .before .before .before .before .before .args .key .now) (c .before .loop .inv) (omega arith)
+
+pub search-spec : {M : Type 1} → statement M
+search-spec =
+    tie.close
+    (tie.spec
+    Inv-loop
+    μ-loop
+    xxh64-requires
+    lookup-of-hash-requires
+    tier-count-requires
+    segment-of-hash-requires
+    add-t
+    loop-holds
+    returns
+    seek-requires
+    slot-requires
+    returns-2
+    next-of-requires
+    add-k
+    loop-less
+    loop-again
+    returns-3)
