@@ -20,7 +20,7 @@ use Rattle.entries.specs.declared.Live.{Live}
 use Rattle.entries.specs.Live.{slotAt, fullSlots, liveAt, liveIn}
 use Rattle.chunks.specs.Chunks.{covers}
 use Rattle.chunks.specs.Counting.{chunksOfEntry, chunksOfAll, RangesIn, Covers}
-use Rattle.chunks.proofs.Rows.{row-before, row-after, row-in, those-more, those-same}
+use Rattle.lists.proofs.Rows.{row-before, row-after, row-in, those-more, those-same}
 
 -- ---- the chunks of one entry
 

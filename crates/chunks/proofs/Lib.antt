@@ -2,6 +2,5 @@ pub mod Answer
 pub mod Covering
 pub mod Marks
 pub mod OneTier
-pub mod Rows
 pub mod Sums
 pub mod Through

@@ -15,7 +15,7 @@ use Rattle.layout.specs.declared.Shape.{Shape}
 use Rattle.layout.specs.Places.{mark}
 use Rattle.layout.proofs.Marks.{mark-lt}
 use Rattle.chunks.specs.Chunks.{clear, lowestClear, markedIn}
-use Rattle.chunks.proofs.Rows.{first-at, first-none, howMany-more, howMany-less, none-passes, none-counted}
+use Rattle.lists.proofs.Rows.{first-at, first-none, howMany-more, howMany-less, none-passes, none-counted}
 
 module _ (z : Shape) (img : List ℕ) (t : ℕ) where
   -- ---- how many are marked

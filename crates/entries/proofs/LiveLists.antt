@@ -17,7 +17,7 @@ use Rattle.entries.specs.declared.Entry.{Entry}
 use Rattle.entries.specs.declared.Live.{Live}
 use Rattle.entries.specs.Live.{slotAt, fullSlots, chunkOf, entryAt, liveAt, liveIn, liveOf, live}
 use Rattle.entries.specs.Stored.{chunksFor, stored, entryOf}
-use Rattle.entries.proofs.Members.{those-in, in-those, flatMap-in, in-flatMap}
+use Rattle.lists.proofs.Members.{those-in, in-those, flatMap-in, in-flatMap}
 
 module _ (z : Shape) (img : List ℕ) where
   open Shape z using (settings)

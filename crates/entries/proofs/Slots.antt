@@ -13,9 +13,6 @@ use Rattle.entries.specs.Keys.{slotKey, slotChunk, slotRest, slotWith}
 
 -- ---- the shifts and masks of the code
 
-pub shifted-one : (n : ℕ) → n < 64 → 1 * 2 ^ n % 2 ^ 64 ≡ 2 ^ n
-shifted-one n h = rw one-mul (mod-eq-of-lt (pow-lt {i = n} {j = 64} h))
-
 pub masked : (x n m : ℕ) → m ≡ 2 ^ n - 1 → (bitAnd x m ≡ x % 2 ^ n) × (bitAnd x m < 2 ^ n)
 masked x n m e = rw e (and-mask x n, mask-lt x n)
 

@@ -26,7 +26,7 @@ use Rattle.entries.specs.declared.Stored.{Stored}
 use Rattle.entries.specs.declared.Stored.the-variants.{Whole, Broken}
 use Rattle.entries.specs.Stored.{valueOffset, entrySize, chunksFor, entryBytes, afterValueLength, afterKeyLength, upToChunks, stored, entryOf, keyOf, valueOf}
 use Rattle.entries.proofs.Sizes.{chunks-enough, length-entry}
-use Rattle.entries.proofs.Cuts.{drop-take, cut-take, cut-within, cut-front, cut-back, cut-room}
+use Rattle.words.proofs.Cuts.{drop-take, cut-take, cut-within, cut-front, cut-back, cut-room}
 
 -- ---- the two lengths that are read
 

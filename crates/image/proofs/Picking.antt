@@ -10,6 +10,7 @@ use lib.Dec.{eqb}
 use borrow.Author.Tests.{ne-eqb, eq-eqb}
 use Rattle.lists.specs.Lists.{span, below, those}
 use Rattle.lists.specs.Quantify.{Every}
+use Rattle.lists.proofs.Rows.{from-next, from-end, from-zero, those-keep, those-drop}
 use Rattle.settings.specs.declared.Settings.{Settings}
 use Rattle.layout.specs.declared.Shape.{Shape}
 use Rattle.layout.specs.Tiers.{tiers, IsTier}
@@ -48,27 +49,6 @@ unfolding pick
 pick-after m [] ys n h = let q : n ≡ m = cc in rw q
 pick-after m (x ∷ xs) ys zero h = absurd (let q : _≡_ {A = ℕ} 0 1 = cc in omega arith)
 pick-after m (x ∷ xs) ys (suc n) h = pick-after m xs ys n h
-
--- ---- the numbers from j on, below n
-
-from-next : (j n : ℕ) → j < n → span j (n - j) ≡ j ∷ span (j + 1) (n - (j + 1))
-unfolding span
-from-next j n h = let e : n - j ≡ suc (n - (j + 1)) = omega arith in rw (e, add-one)
-
-from-end : (j n : ℕ) → n ≤ j → span j (n - j) ≡ []
-unfolding span
-from-end j n h = let e : n - j ≡ 0 = omega arith in rw e
-
-from-zero : (n : ℕ) → span 0 (n - 0) ≡ below n
-from-zero n = let e : n - 0 ≡ n = omega arith in rw e
-
-those-keep : (p : ℕ → Bool) (x : ℕ) (xs : List ℕ) → p x ≡ true → those (x ∷ xs) p ≡ x ∷ those xs p
-unfolding those
-those-keep p x xs h = rw (h, those)
-
-those-drop : (p : ℕ → Bool) (x : ℕ) (xs : List ℕ) → p x ≡ false → those (x ∷ xs) p ≡ those xs p
-unfolding those
-those-drop p x xs h = rw (h, those)
 
 module _ (z : Shape) (img : List ℕ) where
   open Shape z using (settings)

@@ -1,3 +1,5 @@
 pub mod Decides
 pub mod Lists
 pub mod Upto
+pub mod Members
+pub mod Rows

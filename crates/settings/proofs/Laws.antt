@@ -137,7 +137,3 @@ doubling-ends {n} {p} d h =
     (λ (a : q .0 < d .k). absurd (omega (arith, d .below (q .0) a, q .1 .1)))
     (λ (a : d .k ≤ q .0). omega (arith, pow-mono a, q .1 .1, d .is))
     (lt-or (q .0) (d .k)))
-
--- a shift of 1 by a bit count
-pub one-shifted : (v : ℕ) → v ≤ 32 → 1 * 2 ^ v % 2 ^ 64 ≡ 2 ^ v
-one-shifted v h = rw one-mul (mod-eq-of-lt (pow-lt {i = v} {j = 64} (omega arith)))

@@ -72,8 +72,9 @@ with-lt v i b hv hi hb =
 
 -- ---- the masks of the code
 
-mask : (i : ℕ) → i < 8 → 1 * 2 ^ i % 256 ≡ 2 ^ i
-mask i h = rw one-mul (mod-eq-of-lt (pow-lt h))
+-- a 1 shifted by fewer places than the word has
+pub shifted-one : (w n : ℕ) → n < w → 1 * 2 ^ n % 2 ^ w ≡ 2 ^ n
+shifted-one w n h = rw one-mul (mod-eq-of-lt (pow-lt {i = n} {j = w} h))
 
 or-bit : (v i : ℕ) → bitOr v (2 ^ i) ≡ withBit v i 1
 or-bit v i =
@@ -107,10 +108,10 @@ pub and-one : (x : ℕ) → (bitAnd x 1 ≡ x % 2) × (bitAnd x 1 < 2)
 and-one x = (and-mask x 1, mask-lt x 1)
 
 pub or-sets : (v i : ℕ) → i < 8 → bitOr v (1 * 2 ^ i % 256) ≡ withBit v i 1
-or-sets v i h = rw (mask i h) (or-bit v i)
+or-sets v i h = rw (shifted-one 8 i h) (or-bit v i)
 
 pub and-clears : (v i : ℕ) → v < 256 → i < 8 → bitAnd v (255 - 1 * 2 ^ i % 256) ≡ withBit v i 0
-and-clears v i hv h = rw (mask i h) (and-bit v i hv h)
+and-clears v i hv h = rw (shifted-one 8 i h) (and-bit v i hv h)
 
 -- ---- bits of a list of bytes
 

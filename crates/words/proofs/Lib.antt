@@ -1,3 +1,4 @@
 pub mod Bytes
 pub mod Numbers
 pub mod Bits
+pub mod Cuts

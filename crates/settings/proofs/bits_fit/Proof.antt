@@ -1,6 +1,7 @@
 use Prim.Native.Nat.{_≤_, _<_, _^_}
 use mathlib.Core.Path.{_≡_}
-use Rattle.settings.proofs.Laws.{one-shifted, slotSize-le}
+use Rattle.settings.proofs.Laws.{slotSize-le}
+use Rattle.words.proofs.Bits.{shifted-one}
 use native.Mathlib.Omega.{arith}
 use borrow.Author.Needs.{needs}
 use Rattle.settings.proofs.bits_fit.Statement.{statement}
@@ -37,10 +38,10 @@ shl-if8 : tie.Need-shl-if8
 shl-if8 c = search needs
 
 returns-8 : tie.Need-returns-8
-returns-8 c = λ p. let h : c .before .before .before .before .before .before .before .before .before .before .before .before .before .before .before .before .before .before .args .st .chunkBits ≤ 32 = p .1 .0 .1 in omega (arith, one-shifted (c .before .before .before .before .before .before .before .before .before .before .before .before .before .before .before .before .before .before .args .st .chunkBits) h)
+returns-8 c = λ p. let h : c .before .before .before .before .before .before .before .before .before .before .before .before .before .before .before .before .before .before .args .st .chunkBits ≤ 32 = p .1 .0 .1 in omega (arith, shifted-one 64 (c .before .before .before .before .before .before .before .before .before .before .before .before .before .before .before .before .before .before .args .st .chunkBits) (omega arith))
 
 returns-9 : tie.Need-returns-9
-returns-9 c = let h : c .before .before .before .before .before .before .before .before .before .before .before .before .before .before .before .before .before .before .args .st .chunkBits ≤ 32 = omega (arith, c .before .before .before .before .before .before .before .before) in (omega (arith, c .before .before .before .before .before .before .before .before .before .before .before .before), ((omega (arith, c .before .before .before .before .before .before .before .before), h), (omega (arith, c .before .before .before .before .before .before), omega (arith, one-shifted (c .before .before .before .before .before .before .before .before .before .before .before .before .before .before .before .before .before .before .args .st .chunkBits) h))), omega (arith, c .before .before))
+returns-9 c = let h : c .before .before .before .before .before .before .before .before .before .before .before .before .before .before .before .before .before .before .args .st .chunkBits ≤ 32 = omega (arith, c .before .before .before .before .before .before .before .before) in (omega (arith, c .before .before .before .before .before .before .before .before .before .before .before .before), ((omega (arith, c .before .before .before .before .before .before .before .before), h), (omega (arith, c .before .before .before .before .before .before), omega (arith, shifted-one 64 (c .before .before .before .before .before .before .before .before .before .before .before .before .before .before .before .before .before .before .args .st .chunkBits) (omega arith)))), omega (arith, c .before .before))
 
 pub bits-fit-spec : {M : Type 1} → statement M
 bits-fit-spec =

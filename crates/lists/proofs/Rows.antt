@@ -1,5 +1,5 @@
 -- Laws of numbers in a row: which of them pass a test, and which first. Assumes nothing.
-use Prim.Native.Nat.{ℕ, zero, suc, _+_, _≤_, _<_}
+use Prim.Native.Nat.{ℕ, zero, suc, _+_, _-_, _≤_, _<_}
 use mathlib.Core.List.{List, [], _∷_, _++_, append-nil}
 use mathlib.Core.Path.{_≡_, refl, ap, _∙_}
 use mathlib.Core.Bool.{Bool, true, false}
@@ -100,3 +100,24 @@ module _ (p : ℕ → Bool) where
   pub none-counted : (n : ℕ) → Below n (λ i. p i ≡ false) → howMany (below n) p ≡ 0
   none-counted zero f = below-zero
   none-counted (suc n) f = rw (← add-one n) (howMany-less n (f n (omega arith)) ∙ none-counted n (λ i h. f i (omega arith)))
+
+-- ---- the numbers from j on, below n
+
+pub from-next : (j n : ℕ) → j < n → span j (n - j) ≡ j ∷ span (j + 1) (n - (j + 1))
+unfolding span
+from-next j n h = let e : n - j ≡ suc (n - (j + 1)) = omega arith in rw (e, add-one)
+
+pub from-end : (j n : ℕ) → n ≤ j → span j (n - j) ≡ []
+unfolding span
+from-end j n h = let e : n - j ≡ 0 = omega arith in rw e
+
+pub from-zero : (n : ℕ) → span 0 (n - 0) ≡ below n
+from-zero n = let e : n - 0 ≡ n = omega arith in rw e
+
+pub those-keep : (p : ℕ → Bool) (x : ℕ) (xs : List ℕ) → p x ≡ true → those (x ∷ xs) p ≡ x ∷ those xs p
+unfolding those
+those-keep p x xs h = rw (h, those)
+
+pub those-drop : (p : ℕ → Bool) (x : ℕ) (xs : List ℕ) → p x ≡ false → those (x ∷ xs) p ≡ those xs p
+unfolding those
+those-drop p x xs h = rw (h, those)
