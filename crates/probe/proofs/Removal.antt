@@ -1,8 +1,8 @@
 -- What a removal does. Assumes nothing.
 use Prim.Native.Nat.{ℕ, zero, suc, _+_, _≤_, _<_}
-use mathlib.Core.Path.{_≡_, refl, ap, sym, _∙_}
+use mathlib.Core.Path.{_≡_, refl, ap, ap₂, sym, _∙_}
 use mathlib.Core.Logic.{⊎-elim, _≢_}
-use mathlib.Core.Bool.{true, false}
+use mathlib.Core.Bool.{true, false, _&&_}
 use native.Mathlib.Omega.{arith}
 use lib.Dec.{ltb}
 use borrow.Author.Tests.{ltb-true, ltb-false, lt-ltb, le-ltb, le-leb, lt-leb, eqb-true, eqb-false, eq-eqb, ne-eqb}
@@ -22,7 +22,7 @@ module _ {M : Type 0} (𝓣 : Table M) where
   unfolding stays
   stays-is m h i hh hi hx =
       ⊎-elim
-      (λ l. let p : _ = after-hole size hh hx hi .1 l in rw (lt-ltb _ _ (p .0), le-leb _ _ (p .1)) (sym (lt-ltb _ _ l)))
+      (λ l. let p : _ = after-hole size hh hx hi .1 l in ap₂ _&&_ (lt-ltb 0 d (p .0)) (le-leb d (dist size h i) (p .1)) ∙ sym (lt-ltb _ _ l))
       (λ l. ⊎-elim (λ p. rw (lt-ltb 0 d p, lt-leb _ _ (beyond p l)) (sym (le-ltb _ _ l))) (λ p. rw (le-ltb 0 d p) (sym (le-ltb _ _ l))) (lt-or 0 d))
       (lt-or (dist size (home (get m i)) i) (dist size h i))
     where
