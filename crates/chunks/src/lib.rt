@@ -82,7 +82,7 @@ fn marked_in(z: Shape, img: &[u8], t: usize) -> usize
 }
 
 // The lowest clear chunk of a tier, or the number of chunks if none is.
-fn lowest_clear(z: Shape, img: &[u8], t: usize) -> usize
+pub fn lowest_clear(z: Shape, img: &[u8], t: usize) -> usize
     requires { ⌜ Framed z (length (now img)) × IsTier z t ⌝ }
     ensures { λ r. ⌜ r ≡ lowestClear z (now (img .entry)) t ⌝ }
 {

@@ -17,19 +17,19 @@ use Rattle.probe.proofs.Table.{Lawful}
 use Rattle.search.specs.Search.{slotsOf}
 
 module _ {z : Shape} {len : ℕ} (framed : Framed z len) (t : ℕ) (is : IsTier z t) where
-  slot-ne : (j k : ℕ) → j ≢ k → tier t (slot j) ≢ tier t (slot k)
+  pub slot-ne : (j k : ℕ) → j ≢ k → tier t (slot j) ≢ tier t (slot k)
   slot-ne j k ne e = ne (cc)
 
-  slot-fit : (img : List ℕ) (j : ℕ) → Image z img → get z img (tier t (slot j)) < 256 ^ z .settings .slotSize
+  pub slot-fit : (img : List ℕ) (j : ℕ) → Image z img → get z img (tier t (slot j)) < 256 ^ z .settings .slotSize
   unfolding wide partWide
   slot-fit img j ok = get-lt ok (tier t (slot j))
 
-  slot-same : (img : List ℕ) (j v : ℕ) → Image z img → j < z .settings .slots → v < 256 ^ z .settings .slotSize
+  pub slot-same : (img : List ℕ) (j v : ℕ) → Image z img → j < z .settings .slots → v < 256 ^ z .settings .slotSize
       → get z (put z img (tier t (slot j)) v) (tier t (slot j)) ≡ v
   unfolding wide partWide
   slot-same img j v ok h f = get-same ok (tier t (slot j)) v (is, h) f
 
-  pub slots-lawful : Lawful (slotsOf z t)
+  unfoldable pub slots-lawful : Lawful (slotsOf z t)
   slots-lawful =
       record {
         Ok = Image z;

@@ -1,0 +1,147 @@
+-- The calls' answers, as the code puts them together. Assumes nothing.
+use Prim.Native.Nat.{ℕ, _+_, _-_, _≤_, _<_}
+use mathlib.Core.List.{List, [], List·Memᴰ}
+use mathlib.Core.Path.{_≡_, refl, ap, sym, _∙_, subst}
+use mathlib.Core.Logic.{_≢_}
+use mathlib.Core.Bool.{Bool, true, false}
+use mathlib.Core.Option.{Option, none, some}
+use native.Mathlib.Omega.{arith}
+use lib.ListN.{length, take, drop}
+use Rattle.words.specs.Bytes.{Bytes, cut}
+use Rattle.settings.specs.declared.Settings.{Settings}
+use Rattle.layout.specs.declared.Shape.{Shape}
+use Rattle.settings.specs.Rules.{largest}
+use Rattle.layout.specs.Tiers.{IsTier}
+use Rattle.entries.specs.declared.Entry.{Entry}
+use Rattle.entries.specs.declared.Live.{Live}
+use Rattle.entries.specs.Keys.{segmentOf}
+use Rattle.entries.specs.Live.{entryAt, liveAt, live}
+use Rattle.entries.proofs.LiveLists.{IsLive, live-in}
+use Rattle.search.specs.declared.Found.{Found}
+use Rattle.search.specs.declared.Found.the-variants.{At, Absent}
+use Rattle.search.specs.Search.{search}
+use Rattle.upkeep.specs.Sound.{SoundImage}
+use Rattle.edit.specs.Edits.{find, withoutEntry, without, noRoom, storeImage}
+use Rattle.edit.specs.Replaced.{isThere, Stores}
+use Rattle.edit.proofs.Finding.{find-live, search-found, search-none}
+use Rattle.edit.proofs.Replacing.{live-value}
+use Rattle.image.specs.declared.Stage.{Stage}
+use Rattle.image.specs.declared.Counts.{Counts}
+use Rattle.image.specs.declared.Examined.{Examined}
+use Rattle.image.specs.declared.Examined.the-variants.{Ready, Refused}
+use Rattle.chronicle_map.specs.declared.Located.{Located}
+use Rattle.chronicle_map.specs.declared.Located.the-variants as located
+use Rattle.chronicle_map.specs.declared.Answer.{Answer}
+use Rattle.chronicle_map.specs.declared.Answer.the-variants as answer
+use Rattle.chronicle_map.specs.Asked.{aKey, anEntry, asked}
+use Rattle.chronicle_map.specs.Calls.{fromFind, lookedUp, lookup, recordAt, recordLength, recordBytes, Edited, removeFound, removing, remove, storeUnless, storing, store}
+use Rattle.chronicle_map.proofs.Asking.{key-sound}
+
+-- ---- lookup
+
+module _ (z : Shape) (img : List ℕ) (sound : SoundImage z img) (key : List ℕ) (r : Found) (e : r ≡ search z img key) (t j : ℕ) where
+  pub looked-none : r ≡ Absent t j → located.Absent ≡ fromFind (find z img key)
+  unfolding fromFind
+  looked-none f = rw (search-none z img sound key t j (sym e ∙ f))
+
+  pub looked-found : r ≡ At t j → {x : Entry} → x ≡ entryAt z img t j → located.Found (x .valueAt) (x .valueLength) ≡ fromFind (find z img key)
+  unfolding fromFind liveAt
+  looked-found f ex = rw (search-found z img sound key t j (sym e ∙ f)) (λ i. located.Found (ex i .valueAt) (ex i .valueLength))
+
+module _ (block img key : List ℕ) {x : Examined} (ex : x ≡ asked block img (aKey key)) where
+  pub lookup-refused : (s : Stage) → x ≡ Refused s → located.Refused s ≡ lookup block img key
+  unfolding lookup lookedUp
+  lookup-refused s e = ap (lookedUp img key) (sym e ∙ ex)
+
+  pub lookup-ready : (z : Shape) (c : Counts) → x ≡ Ready z c → {r : Located} → r ≡ fromFind (find z img key) → r ≡ lookup block img key
+  unfolding lookup lookedUp
+  lookup-ready z c e er = er ∙ ap (lookedUp img key) (sym e ∙ ex)
+
+-- ---- the record: a found one stands within the image
+
+found-by : (z : Shape) (img key : List ℕ) → SoundImage z img → (o : Option Live) → find z img key ≡ o → (at n : ℕ) → fromFind o ≡ located.Found at n → (at + n ≤ length img) × (length img ≤ largest)
+unfolding fromFind
+found-by z img key sound none f at n e = absurd (let q : _≡_ {A = ℕ} 0 1 = cc in omega arith)
+found-by z img key sound (some x) f at n e =
+    let a : x .entry .valueAt ≡ at = cc in
+    let b : x .entry .valueLength ≡ n = cc in
+    (omega (arith, live-value z img sound x (live-in z img x (find-live z img key x f .0))), sound .frame .imageLength .1)
+
+within-by : (block img key : List ℕ) → Bytes img → (x : Examined) → x ≡ asked block img (aKey key) → (at n : ℕ) → lookedUp img key x ≡ located.Found at n → (at + n ≤ length img) × (length img ≤ largest)
+unfolding lookedUp
+within-by block img key b (Refused s) ex at n e = absurd (let q : _≡_ {A = ℕ} 0 1 = cc in omega arith)
+within-by block img key b (Ready z c) ex at n e = found-by z img key (key-sound block img key z c ex refl b) (find z img key) refl at n e
+
+module _ (block img key : List ℕ) (r : Located) (er : r ≡ lookup block img key) where
+  pub record-within : Bytes img → (at n : ℕ) → r ≡ located.Found at n → (at + n ≤ length img) × (length img ≤ largest)
+  unfolding lookup
+  record-within b at n e = within-by block img key b (asked block img (aKey key)) refl at n (sym er ∙ e)
+
+  pub record-found : (at n : ℕ) → r ≡ located.Found at n → take (at + n - at) (drop at img) ≡ recordBytes img (lookup block img key)
+  unfolding recordBytes recordAt recordLength
+  record-found at n e =
+      let q : at + n - at ≡ n = omega arith in
+      ap (λ (k : ℕ). take k (drop at img)) q ∙ ap (recordBytes img) (sym e ∙ er)
+
+  pub record-absent : r ≡ located.Absent → take (0 - 0) (drop 0 img) ≡ recordBytes img (lookup block img key)
+  unfolding recordBytes recordAt recordLength
+  record-absent e = ap (recordBytes img) (sym e ∙ er)
+
+  pub record-refused : (s : Stage) → r ≡ located.Refused s → take (0 - 0) (drop 0 img) ≡ recordBytes img (lookup block img key)
+  unfolding recordBytes recordAt recordLength
+  record-refused s e = ap (recordBytes img) (sym e ∙ er)
+
+-- ---- removal
+
+module _ (z : Shape) (img key : List ℕ) where
+  done-by : (o : Option Live) {img′ : List ℕ} → isThere o ≡ true → img′ ≡ without z img key → record { answer = answer.Done; image = img′ } ≡ removeFound z img key o
+  unfolding removeFound
+  done-by none t e = absurd (let q : _≡_ {A = ℕ} 0 1 = cc in omega arith)
+  done-by (some x) t e = λ i. record { answer = answer.Done; image = e i }
+
+  absent-by : (o : Option Live) {img′ : List ℕ} → find z img key ≡ o → isThere o ≡ false → img′ ≡ without z img key → record { answer = answer.Absent; image = img′ } ≡ removeFound z img key o
+  unfolding removeFound without withoutEntry
+  absent-by none f t e = let g : without z img key ≡ img = ap (withoutEntry z img) f in λ i. record { answer = answer.Absent; image = (e ∙ g) i }
+  absent-by (some x) f t e = absurd (let q : _≡_ {A = ℕ} 0 1 = cc in omega arith)
+
+  module _ (r : Bool) (er : r ≡ isThere (find z img key)) {img′ : List ℕ} (e : img′ ≡ without z img key) where
+    pub taken-done : r ≡ true → record { answer = answer.Done; image = img′ } ≡ removeFound z img key (find z img key)
+    taken-done t = done-by (find z img key) (sym er ∙ t) e
+
+    pub taken-absent : r ≡ false → record { answer = answer.Absent; image = img′ } ≡ removeFound z img key (find z img key)
+    taken-absent t = absent-by (find z img key) refl (sym er ∙ t) e
+
+module _ (block img key : List ℕ) {x : Examined} (ex : x ≡ asked block img (aKey key)) where
+  pub remove-refused : (s : Stage) → x ≡ Refused s → record { answer = answer.Refused s; image = img } ≡ remove block img key
+  unfolding remove removing
+  remove-refused s e = ap (removing img key) (sym e ∙ ex)
+
+  pub remove-ready : (z : Shape) (c : Counts) → x ≡ Ready z c → {r : Answer} {img′ : List ℕ}
+      → record { answer = r; image = img′ } ≡ removeFound z img key (find z img key) → record { answer = r; image = img′ } ≡ remove block img key
+  unfolding remove removing
+  remove-ready z c e er = er ∙ ap (removing img key) (sym e ∙ ex)
+
+-- ---- store
+
+module _ (z : Shape) (img key value : List ℕ) (r : Bool) {img′ : List ℕ} (e : Stores z img key value r img′) where
+  pub given-done : r ≡ true → record { answer = answer.Done; image = img′ } ≡ storeUnless z img key value (noRoom z img key value)
+  unfolding storeUnless
+  given-done t =
+      let s : Stores z img key value true img′ = subst (λ (b : Bool). Stores z img key value b img′) t e in
+      rw (s .0) (λ i. record { answer = answer.Done; image = s .1 i })
+
+  pub given-full : r ≡ false → record { answer = answer.Full; image = img′ } ≡ storeUnless z img key value (noRoom z img key value)
+  unfolding storeUnless
+  given-full t =
+      let s : Stores z img key value false img′ = subst (λ (b : Bool). Stores z img key value b img′) t e in
+      rw (s .0) (λ i. record { answer = answer.Full; image = s .1 i })
+
+module _ (block img key value : List ℕ) {x : Examined} (ex : x ≡ asked block img (anEntry key value)) where
+  pub store-refused : (s : Stage) → x ≡ Refused s → record { answer = answer.Refused s; image = img } ≡ store block img key value
+  unfolding store storing
+  store-refused s e = ap (storing img key value) (sym e ∙ ex)
+
+  pub store-ready : (z : Shape) (c : Counts) → x ≡ Ready z c → {r : Answer} {img′ : List ℕ}
+      → record { answer = r; image = img′ } ≡ storeUnless z img key value (noRoom z img key value) → record { answer = r; image = img′ } ≡ store block img key value
+  unfolding store storing
+  store-ready z c e er = er ∙ ap (storing img key value) (sym e ∙ ex)

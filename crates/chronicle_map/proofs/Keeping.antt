@@ -1,0 +1,132 @@
+-- Demand 3: any list of calls on an accepted image. Assumes nothing.
+use Prim.Native.Nat.{ℕ, _≤_, _<_}
+use mathlib.Core.List.{List, [], _∷_, _++_, List·Memᴰ}
+use mathlib.Core.Path.{_≡_, refl, ap, sym, _∙_, subst}
+use mathlib.Core.Logic.{_≢_, _⊎_, inl, inr, ⊎-elim}
+use mathlib.Core.Bool.{Bool, true, false}
+use native.Mathlib.Omega.{arith}
+use lib.Dec.{eqb}
+use lib.ListN.{length, length-map}
+use Rattle.lists.specs.Cases.{same-or}
+use Rattle.lists.specs.Lists.{howMany, total}
+use Rattle.lists.proofs.Totals.{howMany-total}
+use Rattle.words.specs.Bytes.{Bytes}
+use Rattle.settings.specs.declared.Settings.{Settings}
+use Rattle.settings.specs.Block.{settingsOf}
+use Rattle.layout.specs.declared.Shape.{Shape}
+use Rattle.layout.specs.Tiers.{IsExtra}
+use Rattle.layout.specs.Places.{mark}
+use Rattle.layout.specs.Frame.{shapeOf}
+use Rattle.layout.proofs.Marks.{mark-lt}
+use Rattle.chains.specs.Chains.{chain, chainedExtra, freeChain}
+use Rattle.entries.specs.Stored.{chunksFor}
+use Rattle.entries.specs.Live.{liveIn, live}
+use Rattle.chunks.specs.Chunks.{covers, markedChunks}
+use Rattle.upkeep.specs.Sound.{Pair, pairOf, pairsOf}
+use Rattle.upkeep.proofs.Chained.{extra-once}
+use Rattle.upkeep.proofs.KeyCounts.{withKey, keys-once}
+use Rattle.upkeep.proofs.Marked.{marked-sum}
+use Rattle.image.specs.declared.Counts.{Counts}
+use Rattle.image.specs.declared.Outcome.the-variants as outcome
+use Rattle.image.specs.Check.{countsOf, check}
+use Rattle.chronicle_map.specs.History.{Call, looksUp, stores, removes, Said, says, leaves, row10, run, answers, told, Map, hasKey, mapOf, Recalled, recall, mapAnswers, mapAfter}
+use Rattle.chronicle_map.specs.Demands.{Accepted, ByteCalls, shape, Kept, Keeps}
+use Rattle.chronicle_map.proofs.Weights.{Weigh, weigh-in, weigh-length}
+use Rattle.chronicle_map.proofs.Accepting.{Holds, holds-shape, holds-accepted, holds-counts, accepted-holds}
+use Rattle.chronicle_map.proofs.Steps.{Step, step}
+
+-- ---- the whole list, by its first call
+
+module _ (block : List ℕ) (z : Shape) where
+  pub same-answers : (calls : List Call) (img : List ℕ) (m : Map) → Holds block img z → Weigh (pairsOf z img) m → ByteCalls calls
+      → answers block img calls ≡ mapAnswers (z .settings) m calls (told block img calls)
+  unfolding answers told mapAnswers
+  same-answers [] img m h w b = refl
+  same-answers (c ∷ cs) img m h w b =
+      let s : Step block img z h m w c = step block img z h m w c (b .0) in
+      let rest : answers block (leaves block img c) cs ≡ mapAnswers (z .settings) (recall (z .settings) m c (row10 block img c) .map) cs (told block (leaves block img c) cs) =
+      same-answers cs (leaves block img c) (recall (z .settings) m c (row10 block img c) .map) (s .holds) (s .weighs) (b .1) in
+      λ i. s .said i ∷ rest i
+
+  pub record After (img : List ℕ) (m : Map) : Type 0 where
+    pub holds : Holds block img z
+    pub weighs : Weigh (pairsOf z img) m
+
+  pub after : (calls : List Call) (img : List ℕ) (m : Map) → Holds block img z → Weigh (pairsOf z img) m → ByteCalls calls
+      → After (run block img calls) (mapAfter (z .settings) m calls (told block img calls))
+  unfolding run told mapAfter
+  after [] img m h w b = record { holds = h; weighs = w }
+  after (c ∷ cs) img m h w b =
+      let s : Step block img z h m w c = step block img z h m w c (b .0) in
+      after cs (leaves block img c) (recall (z .settings) m c (row10 block img c) .map) (s .holds) (s .weighs) (b .1)
+
+-- ---- what an image and a map say that agree
+
+module _ (block img : List ℕ) (z : Shape) (m : Map) (h : Holds block img z) (w : Weigh (pairsOf z img) m) where
+  open Shape z using (settings)
+  open Settings settings using (segments, chunks)
+
+  covered : (s t i : ℕ) → s < segments → List·Memᴰ t (chain z img s) → i < chunks
+      → ((mark z img t i ≡ 1) × (howMany (liveIn z img s t) (covers i) ≡ 1)) ⊎ ((mark z img t i ≡ 0) × (howMany (liveIn z img s t) (covers i) ≡ 0))
+  covered s t i hs mt hi =
+      let e : howMany (liveIn z img s t) (covers i) ≡ mark z img t i = h .sound .chunks .tiersFit s hs t mt .marks i hi in
+      ⊎-elim
+      (λ (q : mark z img t i ≡ 0). inr (q, e ∙ q))
+      (λ (q : mark z img t i ≢ 0). let one : mark z img t i ≡ 1 = omega (arith, mark-lt z img t i) in inl (one, e ∙ one))
+      (same-or (mark z img t i) 0)
+
+  as-many : length (live z img) ≡ length m
+  unfolding pairsOf
+  as-many = sym (length-map (live z img) (pairOf img)) ∙ weigh-length (pairsOf z img) m w
+
+  keys : (key : List ℕ) → howMany (pairsOf z img) (hasKey key) ≤ 1
+  unfolding hasKey withKey
+  keys key = omega (arith, howMany-total (pairsOf z img) (hasKey key), keys-once z img (h .sound) key)
+
+  marked : (c : Counts) → check block img ≡ record { outcome = outcome.Accepted c }
+      → c .chunks ≡ total m (λ p. chunksFor settings (length (p .key)) (length (p .value)))
+  unfolding countsOf
+  marked c e =
+      ap (λ (x : Counts). x .chunks) (holds-counts block img z h c e) ∙ marked-sum z img (h .sound) ∙ w (λ p. chunksFor settings (length (p .key)) (length (p .value)))
+
+-- ---- demand 3
+
+pub history : (block img : List ℕ) → Bytes img → Accepted block img → (calls : List Call) → ByteCalls calls → Keeps block img calls
+history block img b a calls bytes = kept (shape block img) refl (accepted-holds block img b a)
+  where
+    m : Map
+    m = mapAfter (settingsOf block) (mapOf block img) calls (told block img calls)
+
+    -- with the shape after the calls
+    fields : answers block img calls ≡ mapAnswers (settingsOf block) (mapOf block img) calls (told block img calls)
+        → (z : Shape) → shape block (run block img calls) ≡ z → z .settings ≡ settingsOf block
+        → Holds block (run block img calls) z → Weigh (pairsOf z (run block img calls)) m → Keeps block img calls
+    fields same z ez es h w =
+        let h′ : Holds block (run block img calls) (shape block (run block img calls)) = subst (Holds block (run block img calls)) (sym ez) h in
+        let w′ : Weigh (pairsOf (shape block (run block img calls)) (run block img calls)) m = subst (λ (x : Shape). Weigh (pairsOf x (run block img calls)) m) (sym ez) w in
+        let st : shape block (run block img calls) .settings ≡ settingsOf block = h′ .settingsAre in
+        record {
+          sameAnswers = same;
+          accepted = holds-accepted block (run block img calls) (shape block (run block img calls)) h′;
+          inMap = weigh-in (mapOf block (run block img calls)) m w′;
+          inImage = weigh-in m (mapOf block (run block img calls)) (λ F. sym (w′ F));
+          asMany = as-many block (run block img calls) (shape block (run block img calls)) m h′ w′;
+          keysOnce = keys block (run block img calls) (shape block (run block img calls)) m h′ w′;
+          chunksCovered = λ s t i hs mt hi. covered block (run block img calls) (shape block (run block img calls)) m h′ w′ s t i (rw st hs) mt (rw st hi);
+          tiersOnce = extra-once (shape block (run block img calls)) (run block img calls) (h′ .sound .chains);
+          markedChunks = λ c e.
+              marked block (run block img calls) (shape block (run block img calls)) m h′ w′ c e
+              ∙ ap (λ (x : Settings). total m (λ p. chunksFor x (length (p .key)) (length (p .value)))) st;
+        }
+
+    kept : (z : Shape) → shape block img ≡ z → Holds block img z → Keeps block img calls
+    kept z e h =
+        let w : Weigh (pairsOf z img) (mapOf block img) = λ F. ap (λ (x : Shape). total (pairsOf x img) F) (sym e) in
+        let same : answers block img calls ≡ mapAnswers (z .settings) (mapOf block img) calls (told block img calls) = same-answers block z calls img (mapOf block img) h w bytes in
+        let r : After block z (run block img calls) (mapAfter (z .settings) (mapOf block img) calls (told block img calls)) = after block z calls img (mapOf block img) h w bytes in
+        let st : z .settings ≡ settingsOf block = h .settingsAre in
+        let same′ : answers block img calls ≡ mapAnswers (settingsOf block) (mapOf block img) calls (told block img calls) =
+        same ∙ ap (λ (x : Settings). mapAnswers x (mapOf block img) calls (told block img calls)) st in
+        let w′ : Weigh (pairsOf z (run block img calls)) m =
+        λ F. r .weighs F ∙ ap (λ (x : Settings). total (mapAfter x (mapOf block img) calls (told block img calls)) F) st in
+        fields same′ z (holds-shape block (run block img calls) z (r .holds)) st (r .holds) w′

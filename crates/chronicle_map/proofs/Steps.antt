@@ -1,0 +1,143 @@
+-- One call on an accepted image: it answers what the map answers, and leaves an image and a map that agree again. Assumes nothing.
+use Prim.Native.Nat.{ℕ, _+_, _≤_}
+use mathlib.Core.List.{List, [], _∷_, List·Memᴰ}
+use mathlib.Core.Path.{_≡_, refl, ap, sym, _∙_, subst}
+use mathlib.Core.Bool.{Bool, true, false, not}
+use mathlib.Core.Option.{Option, none, some}
+use native.Mathlib.Omega.{arith}
+use lib.ListN.{length, getD}
+use Rattle.lists.specs.Lists.{those, total}
+use Rattle.words.specs.Bytes.{Bytes, same}
+use Rattle.settings.specs.declared.Settings.{Settings}
+use Rattle.settings.specs.Block.{settingsOf}
+use Rattle.layout.specs.declared.Shape.{Shape}
+use Rattle.layout.specs.Frame.{shapeOf}
+use Rattle.entries.specs.declared.Live.{Live}
+use Rattle.upkeep.specs.Sound.{Pair, pairOf, pairsOf, SoundImage}
+use Rattle.image.specs.declared.Counts.{Counts}
+use Rattle.image.specs.declared.Stage.the-variants.{Key, Value}
+use Rattle.image.specs.declared.Examined.{Examined}
+use Rattle.image.specs.declared.Examined.the-variants.{Ready, Refused}
+use Rattle.image.specs.Check.{countsOf, examine}
+use Rattle.edit.specs.Edits.{find, without, noRoom, storeImage}
+use Rattle.chronicle_map.specs.Asked.{Given, aKey, anEntry, GivenKeyFits, givenKeyFits?, GivenValueFits, givenValueFits?, afterValue, afterKey, afterExamined, asked}
+use Rattle.chronicle_map.specs.Calls.{fromFind, lookedUp, lookup, lookupNumbers, recordAt, recordLength, recordBytes, Edited, answerNumber, removeFound, removing, remove, storeUnless, storing, store}
+use Rattle.chronicle_map.specs.History.{Call, looksUp, stores, removes, Said, says, leaves, row10, Map, hasKey, mapGet, mapDrop, Recalled, mapLookup, mapRemove, mapStore, unlessValue, unlessKey, unless, recall}
+use Rattle.edit.proofs.Without.{without-sound, without-pairs}
+use Rattle.edit.proofs.Storing.{store-sound, store-pairs}
+use Rattle.chronicle_map.specs.Demands.{ByteCall}
+use Rattle.chronicle_map.proofs.Weights.{Weigh, weigh-those}
+use Rattle.chronicle_map.proofs.Accepting.{Holds, holds-shape, holds-ready}
+use Rattle.chronicle_map.proofs.Mapping.{map-found, map-none}
+
+-- what the refusals are, once the image is accepted
+pub asked-holds : (block img : List ℕ) (z : Shape) → Holds block img z → (g : Given) → asked block img g ≡ afterKey z (countsOf z img) g (givenKeyFits? (z .settings) g)
+unfolding asked afterExamined
+asked-holds block img z h g = ap (afterExamined g) (holds-ready block img z h)
+
+-- a sound image under the same block
+pub holds-again : {block img img′ : List ℕ} {z : Shape} → Holds block img z → SoundImage z img′ → Holds block img′ z
+holds-again h s = record { blockFits = h .blockFits; settingsAre = h .settingsAre; sound = s }
+
+module _ (block img : List ℕ) (z : Shape) (h : Holds block img z) (m : Map) (w : Weigh (pairsOf z img) m) where
+  -- ---- lookup
+
+  abbrev saysOf : Examined → List ℕ → Said
+  saysOf x key = record { number = getD (lookupNumbers (lookedUp img key x)) 0 0; bytes = recordBytes img (lookedUp img key x) }
+
+  found-said : (key : List ℕ) (o : Option Live) → find z img key ≡ o
+      → record { number = getD (lookupNumbers (fromFind o)) 0 0; bytes = recordBytes img (fromFind o) } ≡ mapLookup m (mapGet m key) .said
+  unfolding fromFind recordBytes recordAt recordLength mapLookup
+  found-said key none f = rw (map-none z img (h .sound) m w key f)
+  found-said key (some e) f = rw (map-found z img (h .sound) m w key e f)
+
+  lookup-said : (key : List ℕ) (d : Dec (GivenKeyFits (z .settings) (aKey key)))
+      → saysOf (afterKey z (countsOf z img) (aKey key) d) key ≡ unlessKey (z .settings) (aKey key) m (mapLookup m (mapGet m key)) d .said
+  unfolding afterKey afterValue givenValueFits? lookedUp recordBytes recordAt recordLength unlessKey unlessValue
+  lookup-said key (no n) = refl
+  lookup-said key (yes k) = found-said key (find z img key) refl
+
+  found-map : (key : List ℕ) (o : Option Pair) → mapLookup m o .map ≡ m
+  unfolding mapLookup
+  found-map key none = refl
+  found-map key (some p) = refl
+
+  lookup-map : (key : List ℕ) (d : Dec (GivenKeyFits (z .settings) (aKey key))) → unlessKey (z .settings) (aKey key) m (mapLookup m (mapGet m key)) d .map ≡ m
+  unfolding unlessKey unlessValue givenValueFits?
+  lookup-map key (no n) = refl
+  lookup-map key (yes k) = found-map key (mapGet m key)
+
+  -- ---- edits
+
+  pub record Agrees (x : Edited) (r : Recalled) : Type 0 where
+    pub said : record { number = answerNumber (x .answer); bytes = [] } ≡ r .said
+    pub holds : Holds block (x .image) z
+    pub weighs : Weigh (pairsOf z (x .image)) (r .map)
+
+  removed : (key : List ℕ) (o : Option Live) (q : Option Pair) → find z img key ≡ o → mapGet m key ≡ q → Agrees (removeFound z img key o) (mapRemove m key q)
+  unfolding removeFound mapRemove mapDrop hasKey
+  removed key none none f g = record { said = refl; holds = h; weighs = w }
+  removed key none (some p) f g = absurd (let e : some p ≡ none = sym g ∙ map-none z img (h .sound) m w key f in let n : _≡_ {A = ℕ} 0 1 = cc in omega arith)
+  removed key (some e) none f g = absurd (let q : none ≡ some (pairOf img e) = sym g ∙ map-found z img (h .sound) m w key e f in let n : _≡_ {A = ℕ} 0 1 = cc in omega arith)
+  removed key (some e) (some p) f g =
+      record {
+        said = refl;
+        holds = holds-again h (without-sound z img (h .sound) key);
+        weighs = λ F. without-pairs z img (h .sound) key F ∙ weigh-those (λ p. not (same (p .key) key)) (pairsOf z img) m w F;
+      }
+
+  remove-agrees : (key : List ℕ) (d : Dec (GivenKeyFits (z .settings) (aKey key)))
+      → Agrees (removing img key (afterKey z (countsOf z img) (aKey key) d)) (unlessKey (z .settings) (aKey key) m (mapRemove m key (mapGet m key)) d)
+  unfolding afterKey afterValue givenValueFits? removing unlessKey unlessValue
+  remove-agrees key (no n) = record { said = refl; holds = h; weighs = w }
+  remove-agrees key (yes k) = removed key (find z img key) (mapGet m key) refl refl
+
+  module _ (key value : List ℕ) (keyBytes : Bytes key) (valueBytes : Bytes value) where
+    stored : GivenKeyFits (z .settings) (anEntry key value) → GivenValueFits (z .settings) (anEntry key value) → (b : Bool) → noRoom z img key value ≡ b
+        → Agrees (storeUnless z img key value b) (mapStore m key value b)
+    unfolding storeUnless mapStore mapDrop hasKey total
+    stored k v true e = record { said = refl; holds = h; weighs = w }
+    stored k v false e =
+        record {
+          said = refl;
+          holds = holds-again h (store-sound z img (h .sound) key value keyBytes valueBytes k (v .0) (v .1) e);
+          weighs = λ F. store-pairs z img (h .sound) key value keyBytes valueBytes k (v .0) (v .1) e F
+              ∙ ap (λ (n : ℕ). F (record { key = key; value = value }) + n) (weigh-those (λ p. not (same (p .key) key)) (pairsOf z img) m w F);
+        }
+
+    store-value : GivenKeyFits (z .settings) (anEntry key value) → (d : Dec (GivenValueFits (z .settings) (anEntry key value))) → (b : Bool) → noRoom z img key value ≡ b
+        → Agrees (storing img key value (afterValue z (countsOf z img) (anEntry key value) d)) (unlessValue (z .settings) (anEntry key value) m (mapStore m key value b) d)
+    unfolding afterValue storing unlessValue
+    store-value k (no n) b e = record { said = refl; holds = h; weighs = w }
+    store-value k (yes v) b e = rw e (stored k v b e)
+
+    store-agrees : (d : Dec (GivenKeyFits (z .settings) (anEntry key value))) → (b : Bool) → noRoom z img key value ≡ b
+        → Agrees (storing img key value (afterKey z (countsOf z img) (anEntry key value) d)) (unlessKey (z .settings) (anEntry key value) m (mapStore m key value b) d)
+    unfolding afterKey storing unlessKey
+    store-agrees (no n) b e = record { said = refl; holds = h; weighs = w }
+    store-agrees (yes k) b e = store-value k (givenValueFits? (z .settings) (anEntry key value)) b e
+
+  -- ---- any call
+
+  pub record Step (c : Call) : Type 0 where
+    pub said : says block img c ≡ recall (z .settings) m c (row10 block img c) .said
+    pub holds : Holds block (leaves block img c) z
+    pub weighs : Weigh (pairsOf z (leaves block img c)) (recall (z .settings) m c (row10 block img c) .map)
+
+  pub step : (c : Call) → ByteCall c → Step c
+  unfolding says leaves row10 recall unless lookup remove store
+  step (looksUp key) b =
+      record {
+        said = rw (asked-holds block img z h (aKey key)) (lookup-said key (givenKeyFits? (z .settings) (aKey key)));
+        holds = h;
+        weighs = rw (lookup-map key (givenKeyFits? (z .settings) (aKey key))) w;
+      }
+  step (removes key) b =
+      let a : Agrees (remove block img key) (unless (z .settings) (aKey key) m (mapRemove m key (mapGet m key))) =
+      rw (asked-holds block img z h (aKey key)) (remove-agrees key (givenKeyFits? (z .settings) (aKey key))) in
+      record { said = a .said; holds = a .holds; weighs = a .weighs }
+  step (stores key value) b =
+      let a : Agrees (store block img key value) (unless (z .settings) (anEntry key value) m (mapStore m key value (noRoom z img key value))) =
+      rw (asked-holds block img z h (anEntry key value)) (store-agrees key value (b .0) (b .1) (givenKeyFits? (z .settings) (anEntry key value)) (noRoom z img key value) refl) in
+      let e : shapeOf (settingsOf block) img ≡ z = holds-shape block img z h in
+      record { said = rw e (a .said); holds = a .holds; weighs = rw e (a .weighs) }

@@ -1,0 +1,84 @@
+-- What is claimed of the calls: demand 2 for one call, demand 3 for a whole list of them.
+use Prim.Native.Nat.{ℕ, _≤_, _<_}
+use mathlib.Core.List.{List, [], _∷_, _++_, List·Memᴰ}
+use mathlib.Core.Path.{_≡_}
+use mathlib.Core.Logic.{_≢_, _⊎_}
+use mathlib.Core.Option.{Option, none, some}
+use lib.Dec.{eqb}
+use lib.ListN.{length}
+use Rattle.lists.specs.Lists.{howMany, total}
+use Rattle.words.specs.Bytes.{Bytes}
+use Rattle.settings.specs.declared.Settings.{Settings}
+use Rattle.settings.specs.Block.{settingsOf}
+use Rattle.layout.specs.declared.Shape.{Shape}
+use Rattle.layout.specs.Tiers.{IsExtra}
+use Rattle.layout.specs.Places.{mark}
+use Rattle.layout.specs.Frame.{shapeOf}
+use Rattle.chains.specs.Chains.{chain, chainedExtra, freeChain}
+use Rattle.entries.specs.declared.Live.{Live}
+use Rattle.entries.specs.Keys.{KeyFits}
+use Rattle.entries.specs.Stored.{keyOf, valueOf, chunksFor}
+use Rattle.entries.specs.Live.{liveIn, live}
+use Rattle.chunks.specs.Chunks.{covers}
+use Rattle.upkeep.specs.Sound.{Pair}
+use Rattle.image.specs.declared.Counts.{Counts}
+use Rattle.image.specs.declared.Outcome.the-variants as outcome
+use Rattle.image.specs.Check.{check}
+use Rattle.chronicle_map.specs.declared.Located.the-variants as looked
+use Rattle.chronicle_map.specs.Calls.{lookup, Edited, answerNumber, remove, store}
+use Rattle.chronicle_map.specs.History.{Call, looksUp, stores, removes, Map, hasKey, mapOf, mapGet, run, answers, told, mapAnswers, mapAfter}
+
+-- none of 2 to 7 applies
+abbrev pub Accepted : List ℕ → List ℕ → Type 0
+Accepted block img = (c : Counts) × (check block img ≡ record { outcome = outcome.Accepted c })
+
+-- keys and records that are given are bytes
+abbrev pub ByteCall : Call → Type 0
+ByteCall (looksUp key) = Bytes key
+ByteCall (stores key value) = Bytes key × Bytes value
+ByteCall (removes key) = Bytes key
+
+abbrev pub ByteCalls : List Call → Type 0
+ByteCalls [] = Unit {0}
+ByteCalls (c ∷ cs) = ByteCall c × ByteCalls cs
+
+abbrev pub shape : List ℕ → List ℕ → Shape
+shape block img = shapeOf (settingsOf block) img
+
+-- ---- demand 2, for an accepted image
+
+-- a lookup gives the record stored under the whole key, or says there is none
+pub record LooksUp (block img key : List ℕ) : Type 0 where
+  pub stored : (e : Live) → List·Memᴰ e (live (shape block img) img) → keyOf img (e .entry) ≡ key
+      → lookup block img key ≡ looked.Found (e .entry .valueAt) (e .entry .valueLength)
+  pub none : KeyFits (settingsOf block) (length key) → mapGet (mapOf block img) key ≡ none → lookup block img key ≡ looked.Absent
+
+-- an image that reads as the same map with only this key altered
+pub record Alters (block img img′ key : List ℕ) (p : Option Pair) : Type 0 where
+  pub accepted : Accepted block img′
+  pub altered : mapGet (mapOf block img′) key ≡ p
+  pub others : (other : List ℕ) → other ≢ key → mapGet (mapOf block img′) other ≡ mapGet (mapOf block img) other
+
+-- ---- demand 3, for an accepted image and any list of calls
+
+pub record Kept (block img : List ℕ) (calls : List Call) (after : List ℕ) (map : Map) : Type 0 where
+  -- each call answered what the map answers: the number and, when found, the record's bytes
+  pub sameAnswers : answers block img calls ≡ mapAnswers (settingsOf block) (mapOf block img) calls (told block img calls)
+  pub accepted : Accepted block after
+  -- the live entries are exactly the keys and records of the map, each key once
+  pub inMap : (p : Pair) → List·Memᴰ p (mapOf block after) → List·Memᴰ p map
+  pub inImage : (p : Pair) → List·Memᴰ p map → List·Memᴰ p (mapOf block after)
+  pub asMany : length (live (shape block after) after) ≡ length map
+  pub keysOnce : (key : List ℕ) → howMany (mapOf block after) (hasKey key) ≤ 1
+  -- a chunk of a chained tier is marked and covered by exactly one live entry, or clear and covered by none
+  pub chunksCovered : (s t i : ℕ) → s < settingsOf block .segments → List·Memᴰ t (chain (shape block after) after s) → i < settingsOf block .chunks
+      → ((mark (shape block after) after t i ≡ 1) × (howMany (liveIn (shape block after) after s t) (covers i) ≡ 1))
+      ⊎ ((mark (shape block after) after t i ≡ 0) × (howMany (liveIn (shape block after) after s t) (covers i) ≡ 0))
+  -- every extra tier stands once, in one segment's chain or in the free chain
+  pub tiersOnce : (t : ℕ) → IsExtra (shape block after) t → howMany (chainedExtra (shape block after) after ++ freeChain (shape block after) after) (eqb t) ≡ 1
+  -- the marked chunks that the check counts are the chunks that the map's keys and records require
+  pub markedChunks : (c : Counts) → check block after ≡ record { outcome = outcome.Accepted c }
+      → c .chunks ≡ total map (λ p. chunksFor (settingsOf block) (length (p .key)) (length (p .value)))
+
+abbrev pub Keeps : List ℕ → List ℕ → List Call → Type 0
+Keeps block img calls = Kept block img calls (run block img calls) (mapAfter (settingsOf block) (mapOf block img) calls (told block img calls))

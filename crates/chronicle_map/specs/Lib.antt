@@ -1,0 +1,5 @@
+pub mod Asked
+pub mod Calls
+pub mod History
+pub mod Demands
+pub mod Everything

@@ -1,0 +1,155 @@
+// The calls over a lent image. Each takes any bytes, checks them itself, and answers.
+use image::Examined;
+use image::Listed;
+use image::Stage;
+use image::Verdict;
+use layout::Shape;
+use search::Found;
+ghost use mathlib.Core.Path.{_≡_};
+ghost use Prim.Native.Nat.{_≤_};
+ghost use lib.ListN.{length};
+ghost use Rattle.entries.specs.Keys.{KeyFits};
+ghost use Rattle.upkeep.specs.Sound.{SoundImage};
+ghost use Rattle.edit.specs.Edits.{find, noRoom};
+ghost use Rattle.image.specs.Check.{check as Check·check};
+ghost use Rattle.image.specs.List.{entry as List·entry};
+ghost use Rattle.chronicle_map.specs.Asked.{ValueFits, aKey, anEntry, asked};
+ghost use Rattle.chronicle_map.specs.Calls.{fromFind, lookup as Calls·lookup, recordBytes, Edited, removeFound, remove as Calls·remove, storeUnless, store as Calls·store};
+
+// A lookup's answer: where the record stands and how long it is; none; a refusal.
+pub enum Located {
+    Found(usize, usize),
+    Absent,
+    Refused(Stage),
+}
+
+// An edit's answer: done; no such key; no tier takes the entry; a refusal.
+pub enum Answer {
+    Done,
+    Absent,
+    Full,
+    Refused(Stage),
+}
+
+// The check: the counts, or the lowest number that applies.
+pub fn check(block: &[u8], img: &[u8]) -> Verdict
+    ensures { λ r. ⌜ r ≡ Check·check (now (block .entry)) (now (img .entry)) ⌝ }
+{
+    image::check(block, img)
+}
+
+// The n-th live entry, by segment, chain order, slot.
+pub fn entry(block: &[u8], img: &[u8], n: usize) -> Listed
+    ensures { λ r. ⌜ r ≡ List·entry (now (block .entry)) (now (img .entry)) n ⌝ }
+{
+    image::list::entry(block, img, n)
+}
+
+// The lowest of 2 to 8 that applies where a key is given.
+fn asked_key(block: &[u8], img: &[u8], key: &[u8]) -> Examined
+    ensures { λ r. ⌜ r ≡ asked (now (block .entry)) (now (img .entry)) (aKey (now (key .entry))) ⌝ }
+{
+    let examined = image::examine(block, img);
+    let Examined::Ready(z, c) = examined else {
+        return examined;
+    };
+    if key.len() < 1 {
+        return Examined::Refused(Stage::Key);
+    }
+    if 1024 < key.len() {
+        return Examined::Refused(Stage::Key);
+    }
+    Examined::Ready(z, c)
+}
+
+// The lowest of 2 to 9 that applies where a key and a record are given.
+fn asked_entry(block: &[u8], img: &[u8], key: &[u8], value: &[u8]) -> Examined
+    ensures { λ r. ⌜ r ≡ asked (now (block .entry)) (now (img .entry)) (anEntry (now (key .entry)) (now (value .entry))) ⌝ }
+{
+    let asked = asked_key(block, img, key);
+    let Examined::Ready(z, c) = asked else {
+        return asked;
+    };
+    if 65535 < value.len() {
+        return Examined::Refused(Stage::Value);
+    }
+    if z.settings.mostChunks < entries::chunks_for(z.settings, key.len(), value.len()) {
+        return Examined::Refused(Stage::Value);
+    }
+    Examined::Ready(z, c)
+}
+
+// Where the record of the whole key stands in an accepted image.
+fn look_up(z: Shape, img: &[u8], key: &[u8]) -> Located
+    requires { ⌜ SoundImage z (now img) ⌝ }
+    ensures { λ r. ⌜ r ≡ fromFind (find z (now (img .entry)) (now (key .entry))) ⌝ }
+{
+    let Found::At(t, j) = search::search(z, img, key) else {
+        return Located::Absent;
+    };
+    let e = entries::read::entry_at(z, img, t, j);
+    Located::Found(e.valueAt, e.valueLength)
+}
+
+// Where the record under a key stands, and how long it is.
+pub fn lookup(block: &[u8], img: &[u8], key: &[u8]) -> Located
+    ensures { λ r. ⌜ r ≡ Calls·lookup (now (block .entry)) (now (img .entry)) (now (key .entry)) ⌝ }
+{
+    match asked_key(block, img, key) {
+        Examined::Refused(stage) => Located::Refused(stage),
+        Examined::Ready(z, _) => look_up(z, img, key),
+    }
+}
+
+// The record itself, as a part of the image; the empty part at its start where there is none.
+pub fn record<'a>(block: &[u8], img: &'a [u8], key: &[u8]) -> &'a [u8]
+    ensures { λ r. ⌜ now r ≡ recordBytes (now (img .entry)) (Calls·lookup (now (block .entry)) (now (img .entry)) (now (key .entry))) ⌝ }
+{
+    match lookup(block, img, key) {
+        Located::Found(at, n) => &img[at..at + n],
+        Located::Absent => &img[0..0],
+        Located::Refused(_) => &img[0..0],
+    }
+}
+
+// Removes the entry of a key from an accepted image.
+fn take(z: Shape, img: &mut [u8], key: &[u8]) -> Answer
+    requires { ⌜ SoundImage z (now img) ⌝ }
+    ensures { λ r. ⌜ record { answer = r; image = now (img .exit) } ≡ removeFound z (now (img .entry)) (now (key .entry)) (find z (now (img .entry)) (now (key .entry))) ⌝ }
+{
+    if edit::remove(z, img, key) {
+        return Answer::Done;
+    }
+    Answer::Absent
+}
+
+// Removes the entry of a key.
+pub fn remove(block: &[u8], img: &mut [u8], key: &[u8]) -> Answer
+    ensures { λ r. ⌜ record { answer = r; image = now (img .exit) } ≡ Calls·remove (now (block .entry)) (now (img .entry)) (now (key .entry)) ⌝ }
+{
+    match asked_key(block, img, key) {
+        Examined::Refused(stage) => Answer::Refused(stage),
+        Examined::Ready(z, _) => take(z, img, key),
+    }
+}
+
+// Stores a record under a key in an accepted image.
+fn give(z: Shape, img: &mut [u8], key: &[u8], value: &[u8]) -> Answer
+    requires { ⌜ SoundImage z (now img) × KeyFits (z .settings) (length (now key)) × ValueFits (z .settings) (now key) (now value) ⌝ }
+    ensures { λ r. ⌜ record { answer = r; image = now (img .exit) } ≡ storeUnless z (now (img .entry)) (now (key .entry)) (now (value .entry)) (noRoom z (now (img .entry)) (now (key .entry)) (now (value .entry))) ⌝ }
+{
+    if edit::store(z, img, key, value) {
+        return Answer::Done;
+    }
+    Answer::Full
+}
+
+// Stores a record under a key, or replaces the one that is there.
+pub fn store(block: &[u8], img: &mut [u8], key: &[u8], value: &[u8]) -> Answer
+    ensures { λ r. ⌜ record { answer = r; image = now (img .exit) } ≡ Calls·store (now (block .entry)) (now (img .entry)) (now (key .entry)) (now (value .entry)) ⌝ }
+{
+    match asked_entry(block, img, key, value) {
+        Examined::Refused(stage) => Answer::Refused(stage),
+        Examined::Ready(z, _) => give(z, img, key, value),
+    }
+}

@@ -1,0 +1,161 @@
+-- The entry that an edit takes out: where the search found it, and the image without it. Assumes nothing.
+use Prim.Native.Nat.{ℕ, _+_, _≤_, _<_}
+use mathlib.Core.List.{List, List·Memᴰ}
+use mathlib.Core.Path.{_≡_, refl, ap, sym, _∙_, subst}
+use mathlib.Core.Logic.{_≢_}
+use mathlib.Core.Bool.{Bool, true, false, not}
+use mathlib.Core.Option.{Option, none, some}
+use native.Mathlib.Omega.{arith}
+use lib.Dec.{eqb}
+use lib.ListN.{length}
+use borrow.Author.Tests.{eq-eqb, ne-eqb}
+use Rattle.lists.specs.Quantify.{Below, Every}
+use Rattle.settings.specs.declared.Settings.{Settings}
+use Rattle.layout.specs.declared.Shape.{Shape}
+use Rattle.layout.specs.Tiers.{IsTier}
+use Rattle.layout.specs.Frame.{Framed}
+use Rattle.chains.specs.Chains.{chain}
+use Rattle.chains.proofs.Along.{chain-tiers}
+use Rattle.entries.specs.declared.Entry.{Entry}
+use Rattle.entries.specs.declared.Live.{Live}
+use Rattle.entries.specs.Keys.{segmentOf}
+use Rattle.entries.specs.Stored.{chunksFor, stored, entryOf}
+use Rattle.entries.specs.Live.{slotAt, chunkOf, entryAt, liveAt, live}
+use Rattle.entries.proofs.LiveLists.{IsLive, live-in}
+use Rattle.entries.proofs.Whole.{entry-small, whole-sound, value-ends}
+use Rattle.layout.proofs.Chunks.{chunk-inside, chunks-inside}
+use Rattle.entries.specs.declared.Stored.{Stored}
+use Rattle.entries.specs.declared.Stored.the-variants.{Whole, Broken}
+use Rattle.leb128.specs.Leb128.{largest}
+use Rattle.search.specs.declared.Found.{Found}
+use Rattle.search.specs.declared.Found.the-variants.{At, Absent}
+use Rattle.search.specs.Search.{search, ChainTiers}
+use Rattle.search.specs.Rules.{IsWhole, EntryFits}
+use Rattle.upkeep.specs.Sound.{SoundImage}
+use Rattle.upkeep.proofs.Recounting.{sound-image}
+use Rattle.removal.specs.Removal.{removeAt}
+use Rattle.placement.specs.declared.Old.{Old}
+use Rattle.edit.specs.Edits.{find, withoutEntry, without}
+use Rattle.edit.specs.Replaced.{oldOf, withoutOld, OldFits, isThere}
+use Rattle.edit.proofs.Finding.{find-live, search-found, search-none}
+
+-- the lengths that were read are small
+pub entry-lengths : (z : Shape) (img : List ℕ) (t j : ℕ) (e : Entry) → e ≡ entryAt z img t j → (e .keyLength ≤ largest) × (e .valueLength ≤ largest)
+unfolding entryAt
+entry-lengths z img t j e is = rw is (entry-small z img t (chunkOf z img t j))
+
+-- ---- taken out, or there is none
+
+module _ (z : Shape) (img : List ℕ) (old : Old) where
+  pub out-none : old .tier ≡ 0 → img ≡ withoutOld z img old
+  unfolding withoutOld
+  out-none e = rw (eq-eqb (old .tier) 0 e, withoutOld)
+
+  pub out-some : old .tier ≢ 0 → removeAt z img (old .tier) (old .slot) (old .chunk) (old .chunks) ≡ withoutOld z img old
+  unfolding withoutOld
+  out-some e = rw (ne-eqb (old .tier) 0 e, withoutOld)
+
+module _ (z : Shape) (img : List ℕ) (sound : SoundImage z img) where
+  open Shape z using (settings)
+  open Settings settings using (slots, chunks)
+
+  pub sound-framed : Framed z (length img)
+  sound-framed = sound-image z img sound .framed
+
+  pub sound-tiers : ChainTiers z img
+  sound-tiers s h = chain-tiers z img s h (sound .chains .segmentsFit s h)
+
+  -- a live entry's tier, slot and chunks
+  pub live-tier : (e : Live) → IsLive z img e → IsTier z (e .tier)
+  live-tier e l = sound-tiers (e .segment) (l .segmentIn) (e .tier) (l .tierIn)
+
+  live-range : (e : Live) → IsLive z img e → e .chunk + e .chunks ≤ chunks
+  unfolding liveAt
+  live-range e l =
+      let c : e .chunk ≡ chunkOf z img (e .tier) (e .slot) = ap (λ (x : Live). x .chunk) (l .is) in
+      let n : e .chunks ≡ chunksFor settings (entryAt z img (e .tier) (e .slot) .keyLength) (entryAt z img (e .tier) (e .slot) .valueLength) = ap (λ (x : Live). x .chunks) (l .is) in
+      omega (arith, c, n, sound .entries .tiersFit (e .segment) (l .segmentIn) (e .tier) (l .tierIn) .slotsFit .full (e .slot) (l .slotIn) (l .full) .rangeEnds)
+
+  -- its record stands within the image
+  pub live-value : (e : Live) → IsLive z img e → e .entry .valueAt + e .entry .valueLength ≤ length img
+  unfolding liveAt entryAt
+  live-value e l =
+      let f : EntryFits z img (e .segment) (e .tier) (e .slot) = sound .entries .tiersFit (e .segment) (l .segmentIn) (e .tier) (l .tierIn) .slotsFit .full (e .slot) (l .slotIn) (l .full) in
+      subst (λ (x : Live). x .entry .valueAt + x .entry .valueLength ≤ length img) (sym (l .is)) (at-value (e .segment) (e .tier) (e .slot) (live-tier e l) f)
+    where
+      within : (t c : ℕ) → IsTier z t → (r : Stored) → stored z img t c ≡ r → IsWhole r → c + chunksFor settings (entryOf r .keyLength) (entryOf r .valueLength) ≤ chunks
+          → entryOf r .valueAt + entryOf r .valueLength ≤ length img
+      within t c it Broken q w h = absurd w
+      within t c it (Whole x) q w h =
+          omega (
+            arith,
+            value-ends z img t c (whole-sound z img t c x q) (sound .valid),
+            chunk-inside z t (c + chunksFor settings (x .keyLength) (x .valueLength)) h,
+            chunks-inside sound-framed t it,
+            sound-framed .within,
+          )
+
+      at-value : (s t j : ℕ) → IsTier z t → EntryFits z img s t j → liveAt z img s t j .entry .valueAt + liveAt z img s t j .entry .valueLength ≤ length img
+      at-value s t j it f = within t (chunkOf z img t j) it (stored z img t (chunkOf z img t j)) refl (f .whole) (f .rangeEnds)
+
+  module _ (key : List ℕ) where
+    found-live : (e : Live) → find z img key ≡ some e → IsLive z img e
+    found-live e f = live-in z img e (find-live z img key e f .0)
+
+    -- ---- by what is found
+
+    fits-by : (o : Option Live) → find z img key ≡ o → OldFits z (oldOf o)
+    unfolding oldOf
+    fits-by none f = record { tierIn = λ n. absurd (n refl); slotIn = omega (arith, sound .valid .slots); rangeEnds = omega arith }
+    fits-by (some e) f =
+        let l : IsLive z img e = found-live e f in
+        record { tierIn = λ _. live-tier e l; slotIn = l .slotIn; rangeEnds = live-range e l }
+
+    out-by : (o : Option Live) → find z img key ≡ o → withoutOld z img (oldOf o) ≡ withoutEntry z img o
+    unfolding oldOf withoutEntry
+    out-by none f = sym (out-none z img (oldOf none) refl)
+    out-by (some e) f =
+        let t : IsTier z (e .tier) = live-tier e (found-live e f) in
+        sym (out-some z img (oldOf (some e)) (λ (q : e .tier ≡ 0). omega (arith, t)))
+
+    there-by : (o : Option Live) → find z img key ≡ o → not (eqb (oldOf o .tier) 0) ≡ isThere o
+    unfolding oldOf
+    there-by none f = refl
+    there-by (some e) f =
+        let t : IsTier z (e .tier) = live-tier e (found-live e f) in
+        rw (ne-eqb (e .tier) 0 (λ (q : e .tier ≡ 0). omega (arith, t)))
+
+    module _ (old : Old) (is : old ≡ oldOf (find z img key)) where
+      pub old-fits : OldFits z old
+      old-fits = subst (OldFits z) (sym is) (fits-by (find z img key) refl)
+
+      pub old-out : withoutOld z img old ≡ without z img key
+      unfolding without
+      old-out = ap (withoutOld z img) is ∙ out-by (find z img key) refl
+
+      pub old-there : not (eqb (old .tier) 0) ≡ isThere (find z img key)
+      old-there = ap (λ (x : Old). not (eqb (x .tier) 0)) is ∙ there-by (find z img key) refl
+
+    -- ---- by the search
+
+    module _ (r : Found) (e : r ≡ search z img key) (t j : ℕ) where
+      pub old-absent : r ≡ Absent t j → record { tier = 0; slot = 0; chunk = 0; chunks = 0 } ≡ oldOf (find z img key)
+      unfolding oldOf
+      old-absent f = rw (search-none z img sound key t j (sym e ∙ f))
+
+      module _ (f : r ≡ At t j) where
+        found : find z img key ≡ some (liveAt z img (segmentOf settings key) t j)
+        found = search-found z img sound key t j (sym e ∙ f)
+
+        pub old-in : IsTier z t × (j < slots)
+        unfolding liveAt
+        old-in =
+            let l : IsLive z img (liveAt z img (segmentOf settings key) t j) = found-live (liveAt z img (segmentOf settings key) t j) found in
+            (live-tier (liveAt z img (segmentOf settings key) t j) l, l .slotIn)
+
+        pub old-found : {c n : ℕ} {x : Entry} → x ≡ entryAt z img t j → c ≡ chunkOf z img t j → n ≡ chunksFor settings (x .keyLength) (x .valueLength)
+            → record { tier = t; slot = j; chunk = c; chunks = n } ≡ oldOf (find z img key)
+        unfolding oldOf liveAt
+        old-found ex ec en =
+            let n′ = en ∙ ap (λ (y : Entry). chunksFor settings (y .keyLength) (y .valueLength)) ex in
+            rw found (λ i. record { tier = t; slot = j; chunk = ec i; chunks = n′ i })

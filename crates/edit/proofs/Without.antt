@@ -1,0 +1,125 @@
+-- The image with the key's entry removed, if there is one: sound, without the key, and with all else. Assumes nothing.
+use Prim.Native.Nat.{ℕ, _+_, _≤_, _<_}
+use mathlib.Core.List.{List, List·Memᴰ}
+use mathlib.Core.Path.{_≡_, refl, ap, sym, _∙_}
+use mathlib.Core.Logic.{_≢_}
+use mathlib.Core.Bool.{Bool, true, false, not}
+use mathlib.Core.Option.{Option, none, some}
+use native.Mathlib.Omega.{arith}
+use Rattle.lists.specs.Cases.{by-test}
+use Rattle.lists.specs.Lists.{those, total}
+use Rattle.lists.proofs.Totals.{total-same, total-zero, total-at, those-total}
+use Rattle.words.specs.Bytes.{same}
+use Rattle.words.proofs.Bytes.{same-eq, same-false, same-true}
+use Rattle.settings.specs.declared.Settings.{Settings}
+use Rattle.layout.specs.declared.Shape.{Shape}
+use Rattle.chains.specs.Chains.{chain, freeHead}
+use Rattle.entries.specs.declared.Live.{Live}
+use Rattle.entries.specs.Stored.{keyOf}
+use Rattle.entries.specs.Live.{slotAt, entryAt, liveAt, live}
+use Rattle.entries.proofs.LiveLists.{in-live}
+use Rattle.search.specs.Rules.{keyAt}
+use Rattle.upkeep.specs.Sound.{Pair, pairOf, pairsOf, SoundImage}
+use Rattle.upkeep.proofs.KeyCounts.{withKey, keys-once, pair-live, live-pair}
+use Rattle.removal.proofs.Removing.{removal-sound, removal-pairs, removal-chain, removal-head}
+use Rattle.edit.specs.Edits.{find, withoutEntry, without}
+use Rattle.edit.proofs.Finding.{find-live, find-none}
+
+-- ---- a key's weight
+
+with-own : (key : List ℕ) (p : Pair) → p .key ≡ key → withKey key p ≡ 1
+unfolding withKey
+with-own key p e = rw (same-eq (p .key) key e, withKey)
+
+with-other : (key : List ℕ) (p : Pair) → p .key ≢ key → withKey key p ≡ 0
+unfolding withKey
+with-other key p n = rw (same-false (p .key) key n, withKey)
+
+-- F, but 0 for this key
+abbrev others : List ℕ → (Pair → ℕ) → Pair → ℕ
+others key F p = elim (not (same (p .key) key)) [ true ↦ F p | false ↦ 0 ]
+
+others-own : (key : List ℕ) (F : Pair → ℕ) (p : Pair) → p .key ≡ key → others key F p ≡ 0
+others-own key F p e = rw (same-eq (p .key) key e, others)
+
+others-other : (key : List ℕ) (F : Pair → ℕ) (p : Pair) → p .key ≢ key → others key F p ≡ F p
+others-other key F p n = rw (same-false (p .key) key n, others)
+
+module _ (z : Shape) (img : List ℕ) (sound : SoundImage z img) (key : List ℕ) where
+  -- ---- by what is found
+
+  entry-sound : (o : Option Live) → find z img key ≡ o → SoundImage z (withoutEntry z img o)
+  unfolding withoutEntry
+  entry-sound none f = sound
+  entry-sound (some e) f = removal-sound z img sound e (find-live z img key e f .0)
+
+  entry-key : (o : Option Live) → find z img key ≡ o → total (pairsOf z (withoutEntry z img o)) (withKey key) ≡ 0
+  unfolding withoutEntry
+  entry-key none f =
+      total-same (pairsOf z img) (λ _. 0) (withKey key)
+      (λ p m.
+      let r : (e : Live) × List·Memᴰ e (live z img) × (p ≡ pairOf img e) = pair-live z img p m in
+      with-other key p (λ (q : p .key ≡ key). find-none z img key f (r .0) (r .1) (ap (λ (x : Pair). x .key) (sym (r .2)) ∙ q)))
+      ∙ total-zero (pairsOf z img)
+  entry-key (some e) f =
+      let r : List·Memᴰ e (live z img) × (keyOf img (e .entry) ≡ key) = find-live z img key e f in
+      omega (arith, removal-pairs z img sound e (r .0) (withKey key), with-own key (pairOf img e) (r .1), keys-once z img sound key)
+
+  entry-others : (F : Pair → ℕ) (o : Option Live) → find z img key ≡ o → total (pairsOf z (withoutEntry z img o)) (others key F) ≡ total (pairsOf z img) (others key F)
+  unfolding withoutEntry
+  entry-others F none f = refl
+  entry-others F (some e) f =
+      let r : List·Memᴰ e (live z img) × (keyOf img (e .entry) ≡ key) = find-live z img key e f in
+      omega (arith, removal-pairs z img sound e (r .0) (others key F), others-own key F (pairOf img e) (r .1))
+
+  entry-chain : (s : ℕ) → s < z .settings .segments → (o : Option Live) → find z img key ≡ o → chain z (withoutEntry z img o) s ≡ chain z img s
+  unfolding withoutEntry
+  entry-chain s h none f = refl
+  entry-chain s h (some e) f = removal-chain z img sound e (find-live z img key e f .0) s h
+
+  entry-head : (o : Option Live) → find z img key ≡ o → freeHead z (withoutEntry z img o) ≡ freeHead z img
+  unfolding withoutEntry
+  entry-head none f = refl
+  entry-head (some e) f = removal-head z img sound e (find-live z img key e f .0)
+
+  -- ---- the whole
+
+  pub without-sound : SoundImage z (without z img key)
+  unfolding without
+  without-sound = entry-sound (find z img key) refl
+
+  pub without-key : total (pairsOf z (without z img key)) (withKey key) ≡ 0
+  unfolding without
+  without-key = entry-key (find z img key) refl
+
+  pub without-chain : (s : ℕ) → s < z .settings .segments → chain z (without z img key) s ≡ chain z img s
+  unfolding without
+  without-chain s h = entry-chain s h (find z img key) refl
+
+  pub without-head : freeHead z (without z img key) ≡ freeHead z img
+  unfolding without
+  without-head = entry-head (find z img key) refl
+
+  without-others : (F : Pair → ℕ) → total (pairsOf z (without z img key)) (others key F) ≡ total (pairsOf z img) (others key F)
+  unfolding without
+  without-others F = entry-others F (find z img key) refl
+
+  -- no pair has the key
+  not-there : (p : Pair) → List·Memᴰ p (pairsOf z (without z img key)) → p .key ≢ key
+  not-there p m e =
+      let h : withKey key p ≤ total (pairsOf z (without z img key)) (withKey key) = total-at (withKey key) p (pairsOf z (without z img key)) m in
+      omega (arith, without-key, with-own key p e)
+
+  pub without-pairs : (F : Pair → ℕ) → total (pairsOf z (without z img key)) F ≡ total (those (pairsOf z img) (λ p. not (same (p .key) key))) F
+  without-pairs F =
+      sym (total-same (pairsOf z (without z img key)) F (others key F) (λ p m. others-other key F p (not-there p m)))
+      ∙ without-others F
+      ∙ sym (those-total (λ (p : Pair). not (same (p .key) key)) F (pairsOf z img))
+
+  -- no slot of a chain stands for the key
+  pub without-absent : (s : ℕ) → s < z .settings .segments → (u : ℕ) → List·Memᴰ u (chain z (without z img key) s) → (k : ℕ) → k < z .settings .slots
+      → slotAt z (without z img key) u k ≢ 0 → keyAt z (without z img key) u k ≢ key
+  unfolding keyAt liveAt
+  without-absent s hs u mu k hk fk e =
+      not-there (pairOf (without z img key) (liveAt z (without z img key) s u k))
+      (live-pair z (without z img key) (liveAt z (without z img key) s u k) (in-live z (without z img key) s u k hs mu hk fk)) e

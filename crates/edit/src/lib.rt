@@ -1,0 +1,83 @@
+// Removal and store of a key in an image that was accepted.
+use layout::Shape;
+use placement::Old;
+use placement::Run;
+use search::Found;
+ghost use mathlib.Core.Path.{_≡_};
+ghost use mathlib.Core.Logic.{_≢_};
+ghost use Prim.Native.Nat.{_≤_};
+ghost use lib.ListN.{length};
+ghost use Rattle.words.specs.Bytes.{Bytes};
+ghost use Rattle.layout.specs.Frame.{Framed};
+ghost use Rattle.entries.specs.Keys.{KeyFits};
+ghost use Rattle.entries.specs.Stored.{chunksFor};
+ghost use Rattle.upkeep.specs.Sound.{SoundImage};
+ghost use Rattle.edit.specs.Edits.{find, without};
+ghost use Rattle.edit.specs.Replaced.{oldOf, withoutOld, OldFits, isThere, Stores};
+
+// The entry with the whole key, if there is one.
+fn old_entry(z: Shape, img: &[u8], key: &[u8]) -> Old
+    requires { ⌜ SoundImage z (now img) ⌝ }
+    ensures { λ r. ⌜ r ≡ oldOf (find z (now (img .entry)) (now (key .entry))) ⌝ }
+{
+    let Found::At(t, j) = search::search(z, img, key) else {
+        return Old {
+            tier: 0,
+            slot: 0,
+            chunk: 0,
+            chunks: 0,
+        };
+    };
+    let e = entries::read::entry_at(z, img, t, j);
+    Old {
+        tier: t,
+        slot: j,
+        chunk: entries::read::chunk_of(z, img, t, j),
+        chunks: entries::chunks_for(z.settings, e.keyLength, e.valueLength),
+    }
+}
+
+// Takes it out.
+fn take_out(z: Shape, img: &mut [u8], old: Old)
+    requires { ⌜ Framed z (length (now img)) × OldFits z old ⌝ }
+    ensures { λ r. ⌜ now (img .exit) ≡ withoutOld z (now (img .entry)) old ⌝ }
+{
+    if old.tier == 0 {
+        return;
+    }
+    removal::remove_at(z, img, old.tier, old.slot, old.chunk, old.chunks);
+}
+
+// Removes the entry with the whole key; whether there was one.
+pub fn remove(z: Shape, img: &mut [u8], key: &[u8]) -> bool
+    requires { ⌜ SoundImage z (now img) ⌝ }
+    ensures { λ r. ⌜ (r ≡ isThere (find z (now (img .entry)) (now (key .entry)))) × (now (img .exit) ≡ without z (now (img .entry)) (now (key .entry))) ⌝ }
+{
+    let old = old_entry(z, img, key);
+    take_out(z, img, old);
+    old.tier != 0
+}
+
+// Stores a record under a key; whether it found room. Nothing is written before that is known.
+pub fn store(z: Shape, img: &mut [u8], key: &[u8], value: &[u8]) -> bool
+    requires { ⌜ SoundImage z (now img) × KeyFits (z .settings) (length (now key)) × (length (now value) ≤ 65535) × (chunksFor (z .settings) (length (now key)) (length (now value)) ≤ z .settings .mostChunks) ⌝ }
+    ensures { λ r. ⌜ Stores z (now (img .entry)) (now (key .entry)) (now (value .entry)) r (now (img .exit)) ⌝ }
+{
+    let n = entries::chunks_for(z.settings, key.len(), value.len());
+    let s = entries::keys::segment_of_hash(z.settings, xxh64::xxh64(key));
+    let old = old_entry(z, img, key);
+    let scan = placement::runs::first_run(z, img, old, s, n);
+    let Run::At(t, c) = scan else {
+        let head = layout::read::first_free(z, img) as usize;
+        if head == 0 {
+            return false;
+        }
+        take_out(z, img, old);
+        joining::join(z, img, s);
+        placement::place::place_at(z, img, head, 0, key, value);
+        return true;
+    };
+    take_out(z, img, old);
+    placement::place::place_at(z, img, t, c, key, value);
+    true
+}

@@ -1,0 +1,11 @@
+pub mod Kept
+pub mod Writes
+pub mod Following
+pub mod Ends
+pub mod Adding
+pub mod Chains
+pub mod Fitting
+pub mod Tiers
+pub mod Joined
+pub mod EndOfChain
+pub mod Putting

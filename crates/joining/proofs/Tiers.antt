@@ -1,0 +1,128 @@
+-- The tiers after a free tier joined the end of a chain: it has no full slot, the others hold what they held. Assumes nothing.
+use Prim.Native.Nat.{ℕ, zero, suc, _+_, _≤_, _<_}
+use mathlib.Core.List.{List, [], _∷_, _++_, List·Memᴰ, List·Memᴰ·append-cases, List·Memᴰ·eq-of-singleton}
+use mathlib.Core.Path.{_≡_, refl, ap, _∙_}
+use mathlib.Core.Logic.{_⊎_, inl, inr, ⊎-elim, _≢_}
+use native.Mathlib.Omega.{arith}
+use lib.ListN.{length}
+use Rattle.lists.specs.Cases.{same-or}
+use Rattle.lists.specs.Lists.{those, howMany, total}
+use Rattle.lists.specs.Quantify.{Below, Every}
+use Rattle.lists.proofs.Lists.{total-append}
+use Rattle.settings.specs.declared.Settings.{Settings}
+use Rattle.layout.specs.declared.Shape.{Shape}
+use Rattle.layout.specs.Places.{mark}
+use Rattle.chains.specs.Chains.{chain, chained, freeHead}
+use Rattle.probe.specs.Table.{total as Table·total}
+use Rattle.entries.specs.Live.{slotAt, fullSlots, liveIn}
+use Rattle.search.specs.Search.{slotsOf}
+use Rattle.search.specs.Rules.{keyAt, TierFits}
+use Rattle.chunks.specs.Chunks.{covers, FreeTierFits}
+use Rattle.upkeep.specs.Sound.{Pair, pairsOf, SoundImage}
+use Rattle.joining.specs.Joining.{lastTier}
+use Rattle.upkeep.proofs.Values.{ifFull, weigh}
+use Rattle.lists.proofs.Totals.{total-same}
+use Rattle.upkeep.proofs.Sums.{full-total, pairs-total}
+use Rattle.upkeep.proofs.Chained.{chained-in, chain-in-tiers}
+use Rattle.upkeep.proofs.AgreeTier.{SameTier, Moved, entry-moves, same-weigh}
+use Rattle.joining.proofs.Ends.{new-in, new-tier}
+use Rattle.joining.proofs.Chains.{other-chain, longer-chain}
+use Rattle.joining.proofs.Fitting.{chained-longer}
+use Rattle.joining.proofs.Writes.{Joins}
+
+-- a sum over empty slots
+table-empty : (z : Shape) (img : List ℕ) (t : ℕ) (f : ℕ → ℕ) → Below (z .settings .slots) (λ k. slotAt z img t k ≡ 0) → (n : ℕ) → n ≤ z .settings .slots
+    → Table·total (slotsOf z t) (ifFull f) img n ≡ 0
+unfolding Table·total ifFull
+table-empty z img t f e zero h = refl
+table-empty z img t f e (suc n) h =
+    let q : ifFull f (slotAt z img t n) ≡ 0 = ap (ifFull f) (e n (omega arith)) in
+    omega (arith, q, table-empty z img t f e n (omega arith))
+
+no-members : {A : Type 0} (xs : List A) → length xs ≡ 0 → xs ≡ []
+no-members [] e = refl
+no-members (x ∷ xs) e = absurd (omega arith)
+
+module _ (z : Shape) (img : List ℕ) (s : ℕ) (hs : s < z .settings .segments) (sound : SoundImage z img) (ne : freeHead z img ≢ 0)
+    (img′ : List ℕ) (j : Joins z img img′ s (freeHead z img) (lastTier z img s) (length (chain z img s))) where
+  -- ---- the tier that joined
+
+  new-same : SameTier z img img′ (freeHead z img)
+  new-same = j .sameTiers (freeHead z img) (new-tier z img s hs (sound .chains) ne)
+
+  new-free : FreeTierFits z img (freeHead z img)
+  new-free = sound .chunks .freeFit (freeHead z img) (new-in z img s hs (sound .chains) ne)
+
+  pub new-slots : Below (z .settings .slots) (λ k. slotAt z img′ (freeHead z img) k ≡ 0)
+  new-slots k h = new-same .slots k h ∙ new-free .slotsEmpty k h
+
+  pub new-marks : Below (z .settings .chunks) (λ i. mark z img′ (freeHead z img) i ≡ 0)
+  new-marks i h = new-same .marks i h ∙ new-free .chunksClear i h
+
+  pub new-none : length (fullSlots z img′ (freeHead z img)) ≡ 0
+  new-none = full-total z img′ (freeHead z img) ∙ table-empty z img′ (freeHead z img) (λ v. 1) new-slots (z .settings .slots) (omega arith)
+
+  new-weigh : (F : Pair → ℕ) → weigh z img′ F (freeHead z img) ≡ 0
+  unfolding weigh
+  new-weigh F = table-empty z img′ (freeHead z img) _ new-slots (z .settings .slots) (omega arith)
+
+  pub new-live : (q i : ℕ) → howMany (liveIn z img′ q (freeHead z img)) (covers i) ≡ 0
+  unfolding liveIn those
+  new-live q i = rw (no-members (fullSlots z img′ (freeHead z img)) new-none)
+
+  pub new-fits : (q : ℕ) → TierFits z img′ q (freeHead z img)
+  new-fits q =
+      record {
+        slotsFit = record { someEmpty = (0, (omega (arith, sound .valid .slots .1 .0), new-slots 0 (omega (arith, sound .valid .slots .1 .0)))); full = λ k h f. absurd (f (new-slots k h)) };
+        reached = λ k h f. absurd (f (new-slots k h));
+      }
+
+  -- ---- the tiers of a chain are those of before, and in one chain the new one
+
+  pub in-chain : (q : ℕ) → q < z .settings .segments → (u : ℕ) → List·Memᴰ u (chain z img′ q) → List·Memᴰ u (chain z img q) ⊎ (u ≡ freeHead z img)
+  in-chain q hq u m =
+      ⊎-elim
+      (λ (e : q ≡ s).
+      let c : chain z img′ q ≡ chain z img q ++ (freeHead z img ∷ []) = rw e (longer-chain z img s hs (sound .chains) ne img′ j) in
+      ⊎-elim (λ k. inl k) (λ k. inr (List·Memᴰ·eq-of-singleton k)) (List·Memᴰ·append-cases (chain z img q) (rw c at m)))
+      (λ (e : q ≢ s). inl (rw (other-chain z img s hs (sound .chains) ne img′ j q hq e) at m))
+      (same-or q s)
+
+  pub old-tier : (q : ℕ) → q < z .settings .segments → (u : ℕ) → List·Memᴰ u (chain z img q) → SameTier z img img′ u
+  old-tier q hq u m = j .sameTiers u (chain-in-tiers z img (sound .chains) q u hq m)
+
+  -- a full slot is one of before, with the key of before
+  pub record Before (q u k : ℕ) : Type 0 where
+    pub within : List·Memᴰ u (chain z img q)
+    pub full : slotAt z img u k ≢ 0
+    pub key : keyAt z img′ u k ≡ keyAt z img u k
+
+  pub full-before : (q : ℕ) → q < z .settings .segments → (u : ℕ) → List·Memᴰ u (chain z img′ q) → (k : ℕ) → k < z .settings .slots → slotAt z img′ u k ≢ 0 → Before q u k
+  full-before q hq u m k hk f =
+      ⊎-elim
+      (λ (o : List·Memᴰ u (chain z img q)).
+      let e : slotAt z img′ u k ≡ slotAt z img u k = old-tier q hq u o .slots k hk in
+      let g : slotAt z img u k ≢ 0 = λ d. f (e ∙ d) in
+      let w : Moved z img img′ q u k k = entry-moves z img img′ u (old-tier q hq u o .bytes) q k k e (sound .entries .tiersFit q hq u o .slotsFit .full k hk g) in
+      record { within = o; full = g; key = w .key })
+      (λ (e : u ≡ freeHead z img). absurd (f (rw e (new-slots k hk))))
+      (in-chain q hq u m)
+
+  -- ---- what the live entries hold
+
+  old-weigh : (F : Pair → ℕ) → Every (chained z img) (λ u. weigh z img′ F u ≡ weigh z img F u)
+  old-weigh F u m =
+      let c : (q : ℕ) × (q < z .settings .segments) × List·Memᴰ u (chain z img q) = chained-in z img (sound .chains) u m in
+      same-weigh z img img′ u (old-tier (c .0) (c .1) u (c .2)) (c .0) (sound .entries .tiersFit (c .0) (c .1) u (c .2) .slotsFit) F
+
+  pub pairs-same : (F : Pair → ℕ) → total (pairsOf z img′) F ≡ total (pairsOf z img) F
+  unfolding total
+  pairs-same F =
+      omega (
+        arith,
+        pairs-total z img F,
+        pairs-total z img′ F,
+        chained-longer z img s hs (sound .chains) ne img′ j (λ xs. total xs (weigh z img′ F)) (total-append (weigh z img′ F)),
+        new-weigh F,
+        total-same (chained z img) (weigh z img F) (weigh z img′ F) (old-weigh F),
+      )

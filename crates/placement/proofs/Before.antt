@@ -1,0 +1,124 @@
+-- What is known before an entry is placed, and what that says of its bytes and of its slot's number. Assumes nothing.
+use Prim.Native.Nat.{ℕ, zero, suc, _+_, _-_, _*_, _^_, _≤_, _<_}
+use mathlib.Core.List.{List, [], _∷_, _++_, List·Memᴰ}
+use mathlib.Core.Path.{_≡_}
+use mathlib.Core.Logic.{_≢_}
+use native.Mathlib.Omega.{arith}
+use native.Mathlib.Nat.{mul-le-mul-right}
+use lib.ListN.{length}
+use Rattle.words.specs.Bytes.{Bytes}
+use Rattle.leb128.specs.Leb128.{encode}
+use Rattle.leb128.proofs.Encode.{bytes-encode}
+use Rattle.settings.specs.declared.Settings.{Settings}
+use Rattle.layout.specs.declared.Shape.{Shape}
+use Rattle.layout.specs.Tiers.{IsTier}
+use Rattle.layout.specs.Places.{mark, chunkAt}
+use Rattle.layout.specs.Frame.{Image}
+use Rattle.layout.proofs.Chunks.{chunk-add, chunk-inside}
+use Rattle.chains.specs.Chains.{chain}
+use Rattle.entries.specs.Keys.{KeyFits, segmentOf, lookupKey, slotKey, slotChunk, slotRest, slotWith}
+use Rattle.entries.specs.Stored.{entryBytes, chunksFor}
+use Rattle.entries.specs.Live.{slotAt, fullSlots}
+use Rattle.entries.proofs.Sizes.{chunks-pos, chunks-enough, length-entry}
+use Rattle.entries.proofs.Hashes.{lookup-lt, lookup-full}
+use Rattle.entries.proofs.Slots.{key-with, chunk-with, rest-with, with-fits, with-full}
+use Rattle.search.specs.Rules.{keyAt}
+use Rattle.upkeep.specs.Sound.{SoundBut}
+use Rattle.upkeep.proofs.Chained.{chain-in-tiers}
+use Rattle.upkeep.proofs.Recounting.{but-image}
+
+-- ---- two lists of bytes, one after the other
+
+pub bytes-append : (xs ys : List ℕ) → Bytes xs → Bytes ys → Bytes (xs ++ ys)
+bytes-append [] ys hx hy i = hy i
+bytes-append (x ∷ xs) ys hx hy zero = hx zero
+bytes-append (x ∷ xs) ys hx hy (suc i) = bytes-append xs ys (λ j. hx (suc j)) hy i
+
+-- the number of a slot for this key, with its entry in chunk c
+abbrev pub numberFor : Shape → List ℕ → ℕ → ℕ
+numberFor z key c = slotWith (z .settings) (lookupKey (z .settings) key) c
+
+module _ (z : Shape) (img : List ℕ) (s t c : ℕ) (key value : List ℕ) where
+  -- what is known before an entry is placed
+  pub record Places : Type 0 where
+    pub segmentIn : s < z .settings .segments
+    pub sound : SoundBut z img t
+    pub tierIn : List·Memᴰ t (chain z img s)
+    pub keyBytes : Bytes key
+    pub valueBytes : Bytes value
+    pub keyLong : KeyFits (z .settings) (length key)
+    pub valueLong : length value ≤ 65535
+    pub notTooMany : chunksFor (z .settings) (length key) (length value) ≤ z .settings .mostChunks
+    pub segmentIs : segmentOf (z .settings) key ≡ s
+    pub roomy : length (fullSlots z img t) + 2 ≤ z .settings .slots
+    pub rangeEnds : c + chunksFor (z .settings) (length key) (length value) ≤ z .settings .chunks
+    pub clearRun : (i : ℕ) → c ≤ i → i < c + chunksFor (z .settings) (length key) (length value) → mark z img t i ≡ 0
+    pub absent : (u : ℕ) → List·Memᴰ u (chain z img s) → (k : ℕ) → k < z .settings .slots → slotAt z img u k ≢ 0 → keyAt z img u k ≢ key
+
+  module _ (p : Places) where
+    open Shape z using (settings)
+    open Settings settings using (chunks, chunkSize, slotSize, chunkBits, keyBits)
+
+    pub image : Image z img
+    image = but-image z img t (p .sound)
+
+    pub is-tier : IsTier z t
+    is-tier = chain-in-tiers z img (p .sound .chains) s t (p .segmentIn) (p .tierIn)
+
+    -- ---- its chunks and bytes
+
+    pub some-chunks : 0 < chunksFor settings (length key) (length value)
+    some-chunks = chunks-pos settings (length key) (length value) (omega (arith, p .keyLong)) (p .valueLong) (p .sound .valid)
+
+    pub chunk-in : c < chunks
+    chunk-in = omega (arith, some-chunks, p .rangeEnds)
+
+    pub entry-fits : length (entryBytes settings key value) ≤ chunksFor settings (length key) (length value) * chunkSize
+    entry-fits =
+        omega (
+          arith,
+          length-entry settings key value,
+          chunks-enough settings (length key) (length value) (omega (arith, p .keyLong)) (p .valueLong) (p .sound .valid),
+        )
+
+    -- they end within the run, and so within the tier's chunks
+    pub entry-room : length (entryBytes settings key value) ≤ (chunks - c) * chunkSize
+    entry-room =
+        let n : ℕ = chunksFor settings (length key) (length value) in
+        let h : n ≤ chunks - c = omega (arith, p .rangeEnds) in
+        omega (arith, entry-fits, mul-le-mul-right chunkSize h)
+
+    pub entry-end : chunkAt z t c + length (entryBytes settings key value) ≤ chunkAt z t (c + chunksFor settings (length key) (length value))
+    entry-end = omega (arith, entry-fits, chunk-add z t c (chunksFor settings (length key) (length value)))
+
+    pub entry-inside : chunkAt z t c + length (entryBytes settings key value) ≤ chunkAt z t chunks
+    entry-inside = omega (arith, entry-end, chunk-inside z t (c + chunksFor settings (length key) (length value)) (p .rangeEnds))
+
+    pub entry-bytes : Bytes (entryBytes settings key value)
+    unfolding entryBytes
+    entry-bytes =
+        let k : List ℕ = encode (length key) in
+        let v : List ℕ = encode (length value) in
+        let hk : Bytes k = bytes-encode (length key) (omega (arith, p .keyLong)) in
+        let hv : Bytes v = bytes-encode (length value) (omega (arith, p .valueLong)) in
+        bytes-append (k ++ key ++ v) value (bytes-append (k ++ key) v (bytes-append k key hk (p .keyBytes)) hv) (p .valueBytes)
+
+    -- ---- its slot's number
+
+    chunk-bits : c < 2 ^ chunkBits
+    chunk-bits = omega (arith, chunk-in, p .sound .valid .chunkBits .1 .1)
+
+    pub number-full : numberFor z key c ≢ 0
+    number-full = with-full settings (lookupKey settings key) c (lookup-full (p .sound .valid) key)
+
+    pub number-fits : numberFor z key c < 256 ^ slotSize
+    number-fits = with-fits settings (lookupKey settings key) c (lookup-lt (p .sound .valid) key) chunk-bits (p .sound .valid)
+
+    pub number-key : slotKey settings (numberFor z key c) ≡ lookupKey settings key
+    number-key = key-with settings (lookupKey settings key) c (lookup-lt (p .sound .valid) key)
+
+    pub number-chunk : slotChunk settings (numberFor z key c) ≡ c
+    number-chunk = chunk-with settings (lookupKey settings key) c (lookup-lt (p .sound .valid) key) chunk-bits
+
+    pub number-rest : slotRest settings (numberFor z key c) ≡ 0
+    number-rest = rest-with settings (lookupKey settings key) c (lookup-lt (p .sound .valid) key) chunk-bits

@@ -1,0 +1,57 @@
+-- What the code finds of a tier's chunks and slots where the old entry counts as removed. Assumes nothing.
+use Prim.Native.Nat.{ℕ, _+_, _-_, _≤_, _<_}
+use mathlib.Core.List.{List}
+use mathlib.Core.Path.{_≡_, refl}
+use mathlib.Core.Logic.{_≢_}
+use mathlib.Core.Bool.{Bool, true, false, _&&_}
+use native.Mathlib.Omega.{arith}
+use lib.Dec.{leb, eqb}
+use borrow.Author.Tests.{eqb-true, eqb-false, eq-eqb, ne-eqb, le-leb, lt-leb, lt-ltb, le-ltb}
+use Rattle.lists.specs.Cases.{by-test}
+use Rattle.layout.specs.declared.Shape.{Shape}
+use Rattle.chunks.specs.Chunks.{clear}
+use Rattle.upkeep.proofs.CountRoom.{full-few}
+use Rattle.placement.specs.declared.Old.{Old}
+use Rattle.placement.specs.Runs.{fullIn, fullBut, clearBut}
+
+and-false : (a : Bool) → (a && false) ≡ false
+and-false true = refl
+and-false false = refl
+
+module _ (z : Shape) (img : List ℕ) (old : Old) (t : ℕ) where
+  -- ---- a chunk
+
+  module _ (i : ℕ) where
+    pub clear-old : t ≡ old .tier → old .chunk ≤ i → i < old .chunk + old .chunks → true ≡ clearBut z img old t i
+    unfolding clearBut
+    clear-old e a b = rw (eq-eqb t (old .tier) e, le-leb (old .chunk) i a, lt-ltb i (old .chunk + old .chunks) b)
+
+    pub clear-else : t ≢ old .tier → clear z img t i ≡ clearBut z img old t i
+    unfolding clearBut
+    clear-else e = rw (ne-eqb t (old .tier) e)
+
+    pub clear-before : i < old .chunk → clear z img t i ≡ clearBut z img old t i
+    unfolding clearBut
+    clear-before h = rw (lt-leb (old .chunk) i h, and-false (eqb t (old .tier)))
+
+    pub clear-after : old .chunk + old .chunks ≤ i → clear z img t i ≡ clearBut z img old t i
+    unfolding clearBut
+    clear-after h =
+        rw (le-ltb i (old .chunk + old .chunks) h, and-false (leb (old .chunk) i), and-false (eqb t (old .tier)))
+
+  -- ---- the slots
+
+  pub full-old : t ≡ old .tier → fullIn z img t - 1 ≡ fullBut z img old t
+  unfolding fullBut
+  full-old e = rw (fullBut, eq-eqb t (old .tier) e)
+
+  pub full-else : t ≢ old .tier → fullIn z img t ≡ fullBut z img old t
+  unfolding fullBut
+  full-else e = rw (fullBut, ne-eqb t (old .tier) e)
+
+pub fullBut-le : (z : Shape) (img : List ℕ) (old : Old) (t : ℕ) → fullBut z img old t ≤ z .settings .slots
+fullBut-le z img old t =
+    let h : fullIn z img t ≤ z .settings .slots = full-few z img t in
+    by-test (eqb t (old .tier))
+    (λ e. omega (arith, full-old z img old t (eqb-true t (old .tier) e)))
+    (λ e. omega (arith, full-else z img old t (eqb-false t (old .tier) e)))

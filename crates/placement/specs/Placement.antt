@@ -1,0 +1,31 @@
+-- Placement: the run is marked, the entry's own bytes are written in it, the first empty slot from the start slot gets the lookup key and
+-- the first chunk, the counters follow.
+use Prim.Native.Nat.{ℕ}
+use mathlib.Core.List.{List}
+use lib.ListN.{length}
+use lib.Seq.{sets}
+use Rattle.settings.specs.declared.Settings.{Settings}
+use Rattle.layout.specs.declared.Shape.{Shape}
+use Rattle.layout.specs.Places.{put, tier, slot, putMarks, chunkAt}
+use Rattle.probe.specs.Search.{room}
+use Rattle.entries.specs.Keys.{lookupKey, start, slotWith}
+use Rattle.entries.specs.Stored.{entryBytes, chunksFor}
+use Rattle.search.specs.Search.{slotsOf}
+use Rattle.upkeep.specs.Recount.{recount}
+
+module _ (z : Shape) where
+  open Shape z using (settings)
+
+  -- the run marked and the entry written
+  unfoldable pub written : List ℕ → ℕ → ℕ → List ℕ → List ℕ → List ℕ
+  written img t c key value =
+      sets (putMarks z img t c (chunksFor settings (length key) (length value)) 1) (chunkAt z t c) (entryBytes settings key value)
+
+  -- the slot filled
+  unfoldable pub slotted : List ℕ → ℕ → ℕ → List ℕ → List ℕ
+  slotted img t c key =
+      put z img (tier t (slot (room (slotsOf z t) img (start settings (lookupKey settings key))))) (slotWith settings (lookupKey settings key) c)
+
+  -- the entry goes to tier t, in the chunks from c on
+  unfoldable pub placeAt : List ℕ → ℕ → ℕ → List ℕ → List ℕ → List ℕ
+  placeAt img t c key value = recount z (slotted (written img t c key value) t c key) t

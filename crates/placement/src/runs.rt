@@ -1,0 +1,98 @@
+// Which tier of a chain takes an entry of n chunks, and where: the old entry counts as removed.
+use super::Old;
+use super::Run;
+use layout::Shape;
+ghost use mathlib.Core.Path.{_≡_};
+ghost use Prim.Native.Nat.{_+_, _<_, _≤_};
+ghost use lib.ListN.{length};
+ghost use Rattle.lists.specs.Quantify.{Every};
+ghost use Rattle.layout.specs.Tiers.{IsTier};
+ghost use Rattle.layout.specs.Frame.{Framed};
+ghost use Rattle.chains.specs.Chains.{chain};
+ghost use Rattle.placement.specs.Runs.{fromLowest, lowestRun, runIn, firstRun, fullBut, clearBut};
+
+// Whether chunk i of tier t is clear.
+fn is_clear(z: Shape, img: &[u8], old: Old, t: usize, i: usize) -> bool
+    requires { ⌜ Framed z (length (now img)) × IsTier z t × (i < z .settings .chunks) × (old .chunk + old .chunks ≤ z .settings .chunks) ⌝ }
+    ensures { λ r. ⌜ r ≡ clearBut z (now (img .entry)) old t i ⌝ }
+{
+    if t == old.tier {
+        if old.chunk <= i {
+            if i < old.chunk + old.chunks {
+                return true;
+            }
+        }
+    }
+    layout::read::mark(z, img, t, i) == 0
+}
+
+// How many slots of tier t are full without the old entry.
+fn full_but(z: Shape, img: &[u8], old: Old, t: usize) -> usize
+    requires { ⌜ Framed z (length (now img)) × IsTier z t ⌝ }
+    ensures { λ r. ⌜ r ≡ fullBut z (now (img .entry)) old t ⌝ }
+{
+    let full = upkeep::full_slots(z, img, t);
+    if t == old.tier {
+        if full == 0 {
+            return 0;
+        }
+        return full - 1;
+    }
+    full
+}
+
+// The lowest run of n clear chunks in tier t; `have` clear chunks end before chunk i.
+fn lowest_run(z: Shape, img: &[u8], old: Old, t: usize, n: usize) -> Run
+    requires { ⌜ Framed z (length (now img)) × IsTier z t × (0 < n) × (old .chunk + old .chunks ≤ z .settings .chunks) ⌝ }
+    ensures { λ r. ⌜ r ≡ fromLowest t (lowestRun z (fullBut z (now (img .entry)) old) (clearBut z (now (img .entry)) old) t n) ⌝ }
+{
+    let mut have = 0;
+    let mut i = 0;
+    while i < z.settings.chunks {
+        if !is_clear(z, img, old, t, i) {
+            have = 0;
+            i += 1;
+            continue;
+        }
+        have += 1;
+        i += 1;
+        if have == n {
+            return Run::At(t, i - n);
+        }
+    }
+    Run::Nowhere
+}
+
+// The run in tier t, unless too many of its slots are full.
+fn run_in(z: Shape, img: &[u8], old: Old, t: usize, n: usize) -> Run
+    requires { ⌜ Framed z (length (now img)) × IsTier z t × (0 < n) × (old .chunk + old .chunks ≤ z .settings .chunks) ⌝ }
+    ensures { λ r. ⌜ r ≡ runIn z (fullBut z (now (img .entry)) old) (clearBut z (now (img .entry)) old) t n ⌝ }
+{
+    let full = full_but(z, img, old, t);
+    if z.settings.slots < full + 2 {
+        return Run::Nowhere;
+    }
+    lowest_run(z, img, old, t, n)
+}
+
+// Of the tiers of segment s's chain, the first that takes an entry of n chunks.
+pub fn first_run(z: Shape, img: &[u8], old: Old, s: usize, n: usize) -> Run
+    requires { ⌜ Framed z (length (now img)) × (s < z .settings .segments) × Every (chain z (now img) s) (IsTier z) × (0 < n) × (old .chunk + old .chunks ≤ z .settings .chunks) ⌝ }
+    ensures { λ r. ⌜ r ≡ firstRun z (fullBut z (now (img .entry)) old) (clearBut z (now (img .entry)) old) (chain z (now (img .entry)) s) n ⌝ }
+{
+    let most = layout::tier_count(z);
+    let mut t = s + 1;
+    let mut k = 0;
+    while k < most {
+        if t == 0 {
+            return Run::Nowhere;
+        }
+        let run = run_in(z, img, old, t, n);
+        let Run::Nowhere = run else {
+            return run;
+        };
+        t = layout::read::next_of(z, img, t) as usize;
+        k += 1;
+    }
+    Run::Nowhere
+}

@@ -1,0 +1,6 @@
+pub mod Slots
+pub mod Twice
+pub mod Numbers
+pub mod Tier
+pub mod Removing
+pub mod Emptying

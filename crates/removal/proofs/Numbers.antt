@@ -1,0 +1,128 @@
+-- Which numbers the slots of a tier hold after a removal, and the sums over them. Assumes nothing.
+use Prim.Native.Nat.{ℕ, _+_, _≤_, _<_}
+use mathlib.Core.List.{List}
+use mathlib.Core.Path.{_≡_, refl, ap, sym, _∙_}
+use mathlib.Core.Logic.{⊎-elim, _≢_}
+use native.Mathlib.Omega.{arith}
+use borrow.Author.Tests.{ne-eqb}
+use Rattle.lists.specs.Cases.{same-or}
+use Rattle.settings.specs.declared.Settings.{Settings}
+use Rattle.layout.specs.declared.Shape.{Shape}
+use Rattle.layout.specs.Tiers.{IsTier}
+use Rattle.layout.specs.Frame.{Image}
+use Rattle.probe.specs.Table.{Empty, Good, total}
+use Rattle.probe.proofs.Table.{Lawful, total-has, total-found}
+use Rattle.probe.proofs.Removal.{Removed, removed}
+use Rattle.probe.proofs.Has.{one-at, one-at-same, one-at-pos, removed-empty}
+use Rattle.entries.specs.Live.{slotAt, chunkOf}
+use Rattle.search.specs.Search.{slotsOf}
+use Rattle.search.specs.Rules.{chunksAt, SomeEmpty, TierFits}
+use Rattle.search.proofs.Landing.{good}
+use Rattle.upkeep.proofs.Values.{ifFull}
+use Rattle.upkeep.proofs.Sums.{table-same}
+use Rattle.search.proofs.Slots.{slots-lawful}
+use Rattle.removal.proofs.Twice.{total-two, total-once}
+use Rattle.removal.proofs.Slots.{cleared, without, cleared-image, cleared-slot}
+
+pub if-full : (f : ℕ → ℕ) (v : ℕ) → v ≢ 0 → ifFull f v ≡ f v
+unfolding ifFull
+if-full f v ne = rw (ne-eqb v 0 ne, ifFull)
+
+pub if-empty : (f : ℕ → ℕ) → ifFull f 0 ≡ 0
+unfolding ifFull
+if-empty f = refl
+
+-- 1 where a full slot holds v
+abbrev is-it : ℕ → ℕ → ℕ
+is-it v = ifFull (one-at v)
+
+is-it-same : (v x : ℕ) → v ≢ 0 → x ≡ v → is-it v x ≡ 1
+is-it-same v x ne e = ap (is-it v) e ∙ if-full (one-at v) v ne ∙ one-at-same v
+
+is-it-pos : (v x : ℕ) → 0 < is-it v x → x ≡ v
+is-it-pos v x h =
+    ⊎-elim
+    (λ (e : x ≡ 0). absurd (omega (arith, ap (is-it v) e, if-empty (one-at v))))
+    (λ (e : x ≢ 0). one-at-pos v x (omega (arith, if-full (one-at v) x e)))
+    (same-or x 0)
+
+is-it-small : (v x : ℕ) → v ≢ 0 → is-it v x ≤ 1
+is-it-small v x ne =
+    ⊎-elim
+    (λ (e : is-it v x ≡ 0). omega arith)
+    (λ (e : is-it v x ≢ 0). omega (arith, is-it-same v x ne (is-it-pos v x (omega arith))))
+    (same-or (is-it v x) 0)
+
+-- the full slot j of tier t in segment s's chain, with the n chunks from c on
+pub record Removable (z : Shape) (img : List ℕ) (s t j c n : ℕ) : Type 0 where
+  pub image : Image z img
+  pub tierIs : IsTier z t
+  pub slotIn : j < z .settings .slots
+  pub full : slotAt z img t j ≢ 0
+  pub fits : TierFits z img s t
+  pub chunkIs : c ≡ chunkOf z img t j
+  pub chunksIs : n ≡ chunksAt z img t j
+
+module _ {z : Shape} {img : List ℕ} {s t j c n : ℕ} (w : Removable z img s t j c n) where
+  open Shape z using (settings)
+  open Settings settings using (slots, chunks)
+
+  pub range-in : c + n ≤ chunks
+  range-in = omega (arith, w .fits .slotsFit .full j (w .slotIn) (w .full) .rangeEnds, w .chunkIs, w .chunksIs)
+
+  abbrev old : List ℕ
+  old = cleared z img t c n
+
+  abbrev new : List ℕ
+  new = without z img t j c n
+
+  slot-kept : (k : ℕ) → k < slots → slotAt z old t k ≡ slotAt z img t k
+  slot-kept = cleared-slot (w .image) t (w .tierIs) j c n (w .slotIn) range-in
+
+  old-good : Good (slotsOf z t) old
+  old-good i k hi hk fi on e =
+      let same : slotAt z old t i ≡ slotAt z img t i = slot-kept i hi in
+      good z img (w .image) t (w .tierIs) (w .fits .slotsFit .someEmpty) (w .fits .reached) i k hi hk (rw same at fi) (rw same at on) (sym (slot-kept k hk) ∙ e)
+
+  abbrev law : Lawful (slotsOf z t)
+  law = slots-lawful (w .image .framed) t (w .tierIs)
+
+  gone : Removed (slotsOf z t) law old j new
+  unfolding slots-lawful
+  gone =
+      let some : SomeEmpty z img t = w .fits .slotsFit .someEmpty in
+      removed (slotsOf z t) law old j (some .0)
+      (cleared-image (w .image) t (w .tierIs) j c n (w .slotIn) range-in) old-good (w .slotIn) (λ e. w .full (sym (slot-kept j (w .slotIn)) ∙ e))
+      (record { lt = some .1 .0; free = slot-kept (some .0) (some .1 .0) ∙ some .1 .1 })
+
+  -- what is known of every sum
+  pub sums : (f : ℕ → ℕ) → total (slotsOf z t) (ifFull f) new slots + f (slotAt z img t j) ≡ total (slotsOf z t) (ifFull f) img slots
+  sums f = omega (arith, gone .totals (ifFull f), if-empty f, ap (ifFull f) (slot-kept j (w .slotIn)), if-full f (slotAt z img t j) (w .full), table-same z t img old f f slot-kept (λ k hk fk. refl))
+
+  pub new-empty : SomeEmpty z new t
+  new-empty =
+      let r : (e : ℕ) × Empty (slotsOf z t) new e = removed-empty (slotsOf z t) law old new j gone (λ e. w .full (sym (slot-kept j (w .slotIn)) ∙ e)) in
+      (r .0, (r .1 .lt, r .1 .free))
+
+  pub new-good : Good (slotsOf z t) new
+  new-good = gone .good
+
+  -- the number of a full slot stood in a slot before
+  pub stood : (k : ℕ) → k < slots → slotAt z new t k ≢ 0 → (i : ℕ) × (i < slots) × (slotAt z new t k ≡ slotAt z img t i)
+  stood k hk fk =
+      let v : ℕ = slotAt z new t k in
+      let there : 0 < total (slotsOf z t) (is-it v) new slots = omega (arith, total-has (slotsOf z t) (is-it v) new slots k hk, is-it-same v v fk refl) in
+      let r : (i : ℕ) × (i < slots) × (0 < is-it v (slotAt z img t i)) = total-found (slotsOf z t) (is-it v) img slots (omega (arith, sums (one-at v))) in
+      (r .0, r .1, sym (is-it-pos v (slotAt z img t (r .0)) (r .2)))
+
+  -- a number that stood in one slot only stands in one slot only
+  pub stood-once : (v : ℕ) → v ≢ 0 → ((a b : ℕ) → a < slots → b < slots → slotAt z img t a ≡ v → slotAt z img t b ≡ v → a ≡ b)
+      → (i k : ℕ) → i < slots → k < slots → slotAt z new t i ≡ v → slotAt z new t k ≡ v → i ≡ k
+  stood-once v ne one i k hi hk ei ek =
+      ⊎-elim
+      (λ (e : i ≡ k). e)
+      (λ (e : i ≢ k).
+      let few : total (slotsOf z t) (is-it v) img slots ≤ 1 =
+      total-once (slotsOf z t) (is-it v) img slots (λ x. is-it-small v x ne) (λ a b ha hb fa fb. one a b ha hb (is-it-pos v _ fa) (is-it-pos v _ fb)) in
+      absurd (omega (arith, total-two (slotsOf z t) (is-it v) new slots i k hi hk e, is-it-same v _ ne ei, is-it-same v _ ne ek, sums (one-at v), few)))
+      (same-or i k)

@@ -1,0 +1,119 @@
+-- What stays where only slots and marks of one tier are written. Assumes nothing.
+use Prim.Native.Nat.{ℕ, _+_, _-_, _*_, _≤_, _<_}
+use mathlib.Core.List.{List}
+use mathlib.Core.Path.{_≡_, refl, _∙_}
+use mathlib.Core.Logic.{_≢_}
+use native.Mathlib.Omega.{arith}
+use lib.ListN.{length}
+use Rattle.words.specs.Bytes.{cut}
+use Rattle.layout.specs.declared.Shape.{Shape}
+use Rattle.layout.specs.Tiers.{IsTier}
+use Rattle.layout.specs.Places.{Global, Header, Counter, Place, global, tier, slot, counter, usedTiers, firstFree, previous, segment, order, next, nextTier, entryCount, count, lowestFree, low, In, get, put, mark, putMarks, sharedPlace, chunkAt}
+use Rattle.layout.specs.Frame.{Framed, Image}
+use Rattle.layout.proofs.Places.{length-put, image-put, get-other, by-kind, shared-in, shared-slot, shared-free}
+use Rattle.layout.proofs.Marks.{NoFree, mark-put-other, length-putMarks, image-putMarks, get-putMarks-other, mark-putMarks-tier}
+use Rattle.layout.proofs.Chunks.{cut-put-chunks, cut-putMarks-chunks}
+use Rattle.probe.specs.Removal.{remove}
+use Rattle.probe.proofs.Removal.{remove-keeps}
+use Rattle.entries.specs.Live.{slotAt}
+use Rattle.search.specs.Search.{slotsOf}
+use Rattle.search.proofs.Slots.{slots-lawful}
+use Rattle.upkeep.proofs.AgreeTier.{SameBytes}
+use Rattle.upkeep.proofs.Replaced.{OnlyTier}
+
+-- a place that is no slot of tier t
+abbrev pub NoSlot : ℕ → Place → Type 0
+NoSlot t p = (j : ℕ) → p ≢ tier t (slot j)
+
+-- what no write of a slot of tier t changes
+pub record Stays (z : Shape) (img img′ : List ℕ) (t : ℕ) : Type 0 where
+  pub image : Image z img′
+  pub long : length img′ ≡ length img
+  pub places : (p : Place) → In z p → NoSlot t p → get z img′ p ≡ get z img p
+  pub marks : (u i : ℕ) → IsTier z u → i < z .settings .chunks → mark z img′ u i ≡ mark z img u i
+  pub bytes : (u : ℕ) → IsTier z u → SameBytes z img img′ u
+
+whole-cut : (z : Shape) (img img′ : List ℕ) (u : ℕ)
+    → cut img′ (chunkAt z u 0) ((z .settings .chunks - 0) * z .settings .chunkSize) ≡ cut img (chunkAt z u 0) ((z .settings .chunks - 0) * z .settings .chunkSize)
+    → SameBytes z img img′ u
+whole-cut z img img′ u e = let n : z .settings .chunks - 0 ≡ z .settings .chunks = omega arith in rw n at e
+
+module _ {z : Shape} {len : ℕ} (framed : Framed z len) (t : ℕ) (is : IsTier z t) where
+  stays-put : (img img′ : List ℕ) (j v : ℕ) → j < z .settings .slots → Stays z img img′ t → Stays z img (put z img′ (tier t (slot j)) v) t
+  stays-put img img′ j v h s =
+      record {
+        image = image-put (s .image) (tier t (slot j)) v;
+        long = length-put z img′ (tier t (slot j)) v ∙ s .long;
+        places = λ p i ns. get-other framed img′ (tier t (slot j)) v p (is, h) i (ns j) ∙ s .places p i ns;
+        marks = λ u i iu k. mark-put-other framed img′ (tier t (slot j)) v u i (is, h) (λ b. by-kind (omega arith)) iu k ∙ s .marks u i iu k;
+        bytes = λ u iu. whole-cut z img′ _ u (cut-put-chunks framed img′ (tier t (slot j)) v u 0 (is, h) (λ b. by-kind (omega arith)) iu (omega arith)) ∙ s .bytes u iu;
+      }
+
+  pub remove-stays : (img : List ℕ) (j : ℕ) → Image z img → j < z .settings .slots → Stays z img (remove (slotsOf z t) img j) t
+  unfolding slots-lawful
+  remove-stays img j im h =
+      remove-keeps (slotsOf z t) (slots-lawful framed t is) (λ m. Stays z img m t) (λ m k v ok hk fit s. stays-put img m k v hk s) img j im h
+      (record { image = im; long = refl; places = λ p i ns. refl; marks = λ u i iu k. refl; bytes = λ u iu. refl })
+
+-- the marks of n chunks of tier t from c on are cleared, and then the slot j is removed
+abbrev pub cleared : Shape → List ℕ → ℕ → ℕ → ℕ → List ℕ
+cleared z img t c n = putMarks z img t c n 0
+
+abbrev pub without : Shape → List ℕ → ℕ → ℕ → ℕ → ℕ → List ℕ
+without z img t j c n = remove (slotsOf z t) (cleared z img t c n) j
+
+module _ {z : Shape} {img : List ℕ} (im : Image z img) (t : ℕ) (is : IsTier z t) (j c n : ℕ) (hj : j < z .settings .slots) (fits : c + n ≤ z .settings .chunks) where
+  abbrev old : List ℕ
+  old = cleared z img t c n
+
+  abbrev new : List ℕ
+  new = without z img t j c n
+
+  pub cleared-image : Image z old
+  cleared-image = image-putMarks im t c n 0 (omega arith)
+
+  pub cleared-slot : (k : ℕ) → k < z .settings .slots → slotAt z old t k ≡ slotAt z img t k
+  cleared-slot k hk = get-putMarks-other (im .framed) img t c n 0 (tier t (slot k)) is fits (is, hk) (λ b. by-kind (omega arith))
+
+  pub stays : Stays z old new t
+  stays = remove-stays (im .framed) t is old j cleared-image hj
+
+  pub same-place : (p : Place) → In z p → NoSlot t p → NoFree t p → get z new p ≡ get z img p
+  same-place p h ns nf = stays .places p h ns ∙ get-putMarks-other (im .framed) img t c n 0 p is fits h nf
+
+  pub same-bytes : (u : ℕ) → IsTier z u → SameBytes z img new u
+  same-bytes u iu = stays .bytes u iu ∙ whole-cut z img old u (cut-putMarks-chunks (im .framed) img t c n 0 u 0 is fits iu (omega arith))
+
+  same-shared : (f : Header) (g : Counter) (u : ℕ) → IsTier z u → get z new (sharedPlace z f g u) ≡ get z img (sharedPlace z f g u)
+  same-shared f g u iu = same-place (sharedPlace z f g u) (shared-in z f g u iu) (λ k. shared-slot z f g u t k) (λ b. shared-free z f g u t b)
+
+  same-global : (f : Global) → get z new (global f) ≡ get z img (global f)
+  same-global f = same-place (global f) tt (λ k e. let y : _≡_ {A = ℕ} 0 1 = cc in omega arith) (λ b e. let y : _≡_ {A = ℕ} 0 1 = cc in omega arith)
+
+  same-counter : (f : Counter) (u : ℕ) → IsTier z u → get z new (tier u (counter f)) ≡ get z img (tier u (counter f))
+  same-counter f u iu = same-place (tier u (counter f)) (iu, tt) (λ k e. let y : _≡_ {A = ℕ} 0 1 = cc in omega arith) (λ b e. let y : _≡_ {A = ℕ} 0 1 = cc in omega arith)
+
+  same-slots : (u : ℕ) → IsTier z u → u ≢ t → (k : ℕ) → k < z .settings .slots → slotAt z new u k ≡ slotAt z img u k
+  same-slots u iu ne k hk = same-place (tier u (slot k)) (iu, hk) (λ i e. ne (cc)) (λ b. by-kind (omega arith))
+
+  pub same-mark : (u i : ℕ) → IsTier z u → u ≢ t → i < z .settings .chunks → mark z new u i ≡ mark z img u i
+  same-mark u i iu ne k = stays .marks u i iu k ∙ mark-putMarks-tier (im .framed) img t c n 0 u i is iu ne fits k
+
+  pub without-only : OnlyTier z img new t
+  without-only =
+      record {
+        image = stays .image;
+        long = stays .long ∙ length-putMarks z img t c n 0;
+        globals = same-global;
+        chains =
+            record {
+              nexts = λ u iu. same-shared nextTier next u iu;
+              previous = λ u iu. same-counter previous u iu;
+              segment = λ u iu. same-counter segment u iu;
+              order = λ u iu. same-counter order u iu;
+              head = same-global firstFree;
+              used = same-global usedTiers;
+            };
+        others = λ u iu ne. record { slots = same-slots u iu ne; marks = λ i k. same-mark u i iu ne k; bytes = same-bytes u iu };
+        counts = λ u iu ne. (same-shared entryCount count u iu, same-shared lowestFree low u iu);
+      }

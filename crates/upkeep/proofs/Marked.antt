@@ -1,0 +1,145 @@
+-- The marked chunks of a sound image are as many as its pairs need. Assumes nothing.
+use Prim.Native.Nat.{ℕ, zero, suc, _+_, _≤_, _<_}
+use mathlib.Core.List.{List, [], _∷_, flatMap, List·Memᴰ, List·Memᴰ·head, List·Memᴰ·tail}
+use mathlib.Core.Path.{_≡_, refl, ap, sym, _∙_}
+use mathlib.Core.Logic.{⊎-elim, _≢_}
+use native.Mathlib.Omega.{arith}
+use native.Mathlib.Numerals.{add-one}
+use lib.Dec.{eqb, ltb}
+use lib.ListN.{length, length-append}
+use borrow.Author.Tests.{eq-eqb, ne-eqb, lt-ltb, le-ltb}
+use Rattle.lists.specs.Cases.{lt-or, same-or}
+use Rattle.lists.specs.Lists.{those, howMany, total}
+use Rattle.lists.specs.Quantify.{Below, Every}
+use Rattle.lists.proofs.Lists.{span-in, length-span}
+use Rattle.lists.proofs.Members.{flatMap-in}
+use Rattle.words.proofs.Bytes.{length-cut}
+use Rattle.settings.specs.declared.Settings.{Settings}
+use Rattle.layout.specs.declared.Shape.{Shape}
+use Rattle.layout.specs.Tiers.{IsTier}
+use Rattle.layout.specs.Places.{mark}
+use Rattle.layout.specs.Frame.{Image}
+use Rattle.layout.proofs.Chunks.{chunk-inside, chunks-inside}
+use Rattle.chains.specs.Chains.{chain, chained}
+use Rattle.entries.specs.declared.Stored.{Stored}
+use Rattle.entries.specs.declared.Stored.the-variants.{Whole, Broken}
+use Rattle.entries.specs.declared.Live.{Live}
+use Rattle.entries.specs.Stored.{stored, entryOf, keyOf, valueOf, chunksFor}
+use Rattle.entries.specs.Live.{slotAt, chunkOf, entryAt, liveAt, liveIn}
+use Rattle.entries.proofs.LiveLists.{liveIn-in}
+use Rattle.entries.proofs.Whole.{WholeAt, whole-sound, key-in-image, value-ends}
+use Rattle.search.specs.Rules.{IsWhole, EntryFits, SlotsFit}
+use Rattle.chunks.specs.Chunks.{covers, markedIn, markedChunks}
+use Rattle.chunks.specs.Counting.{chunksOfEntry, chunksOfAll}
+use Rattle.chunks.proofs.Covering.{covered-by, range-ends}
+use Rattle.chunks.proofs.Marks.{markedBelow, marked-none, marked-more, marked-all}
+use Rattle.upkeep.specs.Sound.{Pair, pairsOf, SoundImage}
+use Rattle.upkeep.proofs.Values.{pairFor, weigh}
+use Rattle.lists.proofs.Totals.{total-same}
+use Rattle.upkeep.proofs.Sums.{liveIn-total, pairs-total}
+use Rattle.upkeep.proofs.Chained.{chained-in, chain-in-tiers}
+use Rattle.upkeep.proofs.Recounting.{sound-image}
+
+-- ---- numbers below a bound, counted one by one
+
+below-more : (n : ℕ) (xs : List ℕ) → howMany xs (λ x. ltb x (n + 1)) ≡ howMany xs (λ x. ltb x n) + howMany xs (eqb n)
+unfolding those
+below-more n [] = refl
+below-more n (x ∷ xs) =
+    ⊎-elim
+    (λ (e : n ≡ x).
+    rw (eq-eqb n x e, lt-ltb x (n + 1) (omega arith), le-ltb x n (omega arith), those) (omega (arith, below-more n xs)))
+    (λ (e : n ≢ x).
+    ⊎-elim
+    (λ (l : x < n). rw (ne-eqb n x e, lt-ltb x (n + 1) (omega arith), lt-ltb x n l, those) (omega (arith, below-more n xs)))
+    (λ (l : n ≤ x). rw (ne-eqb n x e, le-ltb x (n + 1) (omega arith), le-ltb x n l, those) (below-more n xs))
+    (lt-or x n))
+    (same-or n x)
+
+below-none : (xs : List ℕ) → howMany xs (λ x. ltb x 0) ≡ 0
+unfolding those
+below-none [] = refl
+below-none (x ∷ xs) = rw (le-ltb x 0 (omega arith), those) (below-none xs)
+
+below-all : (n : ℕ) (xs : List ℕ) → Every xs (λ x. x < n) → howMany xs (λ x. ltb x n) ≡ length xs
+unfolding those
+below-all n [] f = refl
+below-all n (x ∷ xs) f = rw (lt-ltb x n (f x (List·Memᴰ·head refl)), those) (ap suc (below-all n xs (λ y m. f y (List·Memᴰ·tail m))))
+
+-- ---- the chunks of several entries
+
+length-chunks : (es : List Live) → length (chunksOfAll es) ≡ total es (λ e. e .chunks)
+unfolding chunksOfAll flatMap total
+length-chunks [] = refl
+length-chunks (e ∷ es) =
+    omega (arith, length-append (chunksOfEntry e) (chunksOfAll es), length-span (e .chunk) (e .chunks), length-chunks es)
+
+chunks-below : (n : ℕ) (es : List Live) → Every es (λ e. e .chunk + e .chunks ≤ n) → Every (chunksOfAll es) (λ x. x < n)
+unfolding chunksOfAll
+chunks-below n es f x m =
+    let r : (e : Live) × List·Memᴰ e es × List·Memᴰ x (chunksOfEntry e) = flatMap-in chunksOfEntry es m in
+    omega (arith, f (r .0) (r .1), span-in (r .0 .chunk) (r .0 .chunks) x (r .2))
+
+-- ---- a tier's marks
+
+module _ (z : Shape) (img : List ℕ) where
+  open Shape z using (settings)
+  open Settings settings using (segments, slots, chunks)
+
+  marked-chunks : (t : ℕ) (es : List Live) → Below chunks (λ i. howMany es (covers i) ≡ mark z img t i)
+      → (n : ℕ) → n ≤ chunks → markedBelow z img t n ≡ howMany (chunksOfAll es) (λ x. ltb x n)
+  marked-chunks t es f zero h = marked-none z img t ∙ sym (below-none (chunksOfAll es))
+  marked-chunks t es f (suc n) h =
+      let e : markedBelow z img t (n + 1) ≡ howMany (chunksOfAll es) (λ x. ltb x (n + 1)) =
+      omega (arith, marked-more z img t n, below-more n (chunksOfAll es), covered-by n es, f n (omega arith), marked-chunks t es f n (omega arith)) in
+      rw add-one at e
+
+  marked-tier : (t : ℕ) (es : List Live) → Below chunks (λ i. howMany es (covers i) ≡ mark z img t i) → Every es (λ e. e .chunk + e .chunks ≤ chunks)
+      → markedIn z img t ≡ total es (λ e. e .chunks)
+  marked-tier t es f g =
+      sym (marked-all z img t) ∙ marked-chunks t es f chunks (omega arith) ∙ below-all chunks (chunksOfAll es) (chunks-below chunks es g) ∙ length-chunks es
+
+  -- ---- what one entry needs
+
+  -- key and value stand within the image, so that their lengths are those that were read
+  whole-long : (t c : ℕ) → Image z img → IsTier z t → (r : Stored) → stored z img t c ≡ r → IsWhole r
+      → c + chunksFor settings (entryOf r .keyLength) (entryOf r .valueLength) ≤ chunks
+      → (length (keyOf img (entryOf r)) ≡ entryOf r .keyLength) × (length (valueOf img (entryOf r)) ≡ entryOf r .valueLength)
+  whole-long t c im it Broken e w h = absurd w
+  whole-long t c im it (Whole x) e w h =
+      let a : WholeAt z img t c x = whole-sound z img t c x e in
+      let n : ℕ = c + chunksFor settings (x .keyLength) (x .valueLength) in (
+        length-cut img (x .keyAt) (x .keyLength) (key-in-image z img t c a (im .framed) it),
+        length-cut img (x .valueAt) (x .valueLength)
+            (omega (arith, value-ends z img t c a (im .framed .valid), chunk-inside z t n h, chunks-inside (im .framed) t it, im .framed .within)),
+      )
+
+  -- the chunks that a pair needs
+  abbrev needs : Pair → ℕ
+  needs p = chunksFor settings (length (p .key)) (length (p .value))
+
+  entry-needs : (s t j : ℕ) → Image z img → IsTier z t → EntryFits z img s t j → liveAt z img s t j .chunks ≡ needs (pairFor z img t (slotAt z img t j))
+  unfolding liveAt entryAt
+  entry-needs s t j im it f =
+      let q : _ = whole-long t (chunkOf z img t j) im it (stored z img t (chunkOf z img t j)) refl (f .whole) (f .rangeEnds) in
+      rw (q .0, q .1)
+
+  entry-ends : (s t : ℕ) → SlotsFit z img s t → Every (liveIn z img s t) (λ e. e .chunk + e .chunks ≤ chunks)
+  entry-ends s t fits e m =
+      let r : (j : ℕ) × (j < slots) × (slotAt z img t j ≢ 0) × (e ≡ liveAt z img s t j) = liveIn-in z img s t e m in
+      range-ends z img s t (λ j h full. fits .full j h full .rangeEnds) (r .0) (r .1) (r .2) e (r .3)
+
+  tier-needs : (s t : ℕ) → SoundImage z img → s < segments → List·Memᴰ t (chain z img s) → markedIn z img t ≡ weigh z img needs t
+  unfolding weigh
+  tier-needs s t sound hs m =
+      let fits : SlotsFit z img s t = sound .entries .tiersFit s hs t m .slotsFit in
+      let it : IsTier z t = chain-in-tiers z img (sound .chains) s t hs m in
+      marked-tier t (liveIn z img s t) (sound .chunks .tiersFit s hs t m .marks) (entry-ends s t fits)
+      ∙ liveIn-total z img s t (λ e. e .chunks) (λ v. needs (pairFor z img t v)) (λ j hj full. entry-needs s t j (sound-image z img sound) it (fits .full j hj full))
+
+  pub marked-sum : SoundImage z img → markedChunks z img ≡ total (pairsOf z img) (λ p. chunksFor settings (length (p .key)) (length (p .value)))
+  unfolding markedChunks
+  marked-sum sound =
+      total-same (chained z img) (weigh z img needs) (markedIn z img)
+      (λ t m. let c : (s : ℕ) × (s < segments) × List·Memᴰ t (chain z img s) = chained-in z img (sound .chains) t m in tier-needs (c .0) t sound (c .1) (c .2))
+      ∙ sym (pairs-total z img needs)
