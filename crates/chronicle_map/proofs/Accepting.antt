@@ -79,7 +79,7 @@ module _ (block img : List ℕ) (z : Shape) where
 
 module _ (block img : List ℕ) where
   -- accepted by the check, so ready
-  accepted-ready : (x : Examined) (c : Counts) → verdictOf x ≡ record { outcome = outcome.Accepted c } → (z : Shape) × (d : Counts) × (x ≡ Ready z d)
+  pub accepted-ready : (x : Examined) (c : Counts) → verdictOf x ≡ record { outcome = outcome.Accepted c } → (z : Shape) × (d : Counts) × (x ≡ Ready z d)
   unfolding verdictOf
   accepted-ready (Ready z d) c e = (z, d, refl)
   accepted-ready (Refused s) c e =

@@ -18,22 +18,23 @@ use Rattle.layout.specs.Tiers.{IsExtra}
 use Rattle.layout.specs.Places.{mark}
 use Rattle.layout.specs.Frame.{shapeOf}
 use Rattle.layout.proofs.Marks.{mark-lt}
-use Rattle.chains.specs.Chains.{chain, chainedExtra, freeChain}
+use Rattle.chains.specs.Chains.{chain, chained, chainedExtra, freeChain}
 use Rattle.entries.specs.Stored.{chunksFor}
-use Rattle.entries.specs.Live.{liveIn, live}
-use Rattle.chunks.specs.Chunks.{covers, markedChunks}
+use Rattle.entries.specs.Live.{live}
+use Rattle.chunks.specs.Chunks.{markedChunks}
 use Rattle.upkeep.specs.Sound.{Pair, pairOf, pairsOf}
-use Rattle.upkeep.proofs.Chained.{extra-once}
+use Rattle.upkeep.proofs.Chained.{chained-in, extra-once}
 use Rattle.upkeep.proofs.KeyCounts.{withKey, keys-once}
 use Rattle.upkeep.proofs.Marked.{marked-sum}
 use Rattle.image.specs.declared.Counts.{Counts}
 use Rattle.image.specs.declared.Outcome.the-variants as outcome
 use Rattle.image.specs.Check.{countsOf, check}
 use Rattle.chronicle_map.specs.History.{Call, looksUp, stores, removes, Said, says, leaves, row10, run, answers, told, Map, hasKey, mapOf, Recalled, recall, mapAnswers, mapAfter}
-use Rattle.chronicle_map.specs.Demands.{Accepted, ByteCalls, shape, Kept, Keeps}
+use Rattle.chronicle_map.specs.Demands.{Accepted, ByteCalls, shape, coversIn, Kept, Keeps}
 use Rattle.chronicle_map.proofs.Weights.{Weigh, weigh-in, weigh-length}
 use Rattle.chronicle_map.proofs.Accepting.{Holds, holds-shape, holds-accepted, holds-counts, accepted-holds}
 use Rattle.chronicle_map.proofs.Steps.{Step, step}
+use Rattle.chronicle_map.proofs.Covered.{covered-live}
 
 -- ---- the whole list, by its first call
 
@@ -66,10 +67,12 @@ module _ (block img : List ℕ) (z : Shape) (m : Map) (h : Holds block img z) (w
   open Shape z using (settings)
   open Settings settings using (segments, chunks)
 
-  covered : (s t i : ℕ) → s < segments → List·Memᴰ t (chain z img s) → i < chunks
-      → ((mark z img t i ≡ 1) × (howMany (liveIn z img s t) (covers i) ≡ 1)) ⊎ ((mark z img t i ≡ 0) × (howMany (liveIn z img s t) (covers i) ≡ 0))
-  covered s t i hs mt hi =
-      let e : howMany (liveIn z img s t) (covers i) ≡ mark z img t i = h .sound .chunks .tiersFit s hs t mt .marks i hi in
+  covered : (t i : ℕ) → List·Memᴰ t (chained z img) → i < chunks
+      → ((mark z img t i ≡ 1) × (howMany (live z img) (coversIn t i) ≡ 1)) ⊎ ((mark z img t i ≡ 0) × (howMany (live z img) (coversIn t i) ≡ 0))
+  covered t i mt hi =
+      let c : (s : ℕ) × (s < segments) × List·Memᴰ t (chain z img s) = chained-in z img (h .sound .chains) t mt in
+      let e : howMany (live z img) (coversIn t i) ≡ mark z img t i =
+      covered-live z img (h .sound .chains) (c .0) t i (c .1) (c .2) ∙ h .sound .chunks .tiersFit (c .0) (c .1) t (c .2) .marks i hi in
       ⊎-elim
       (λ (q : mark z img t i ≡ 0). inr (q, e ∙ q))
       (λ (q : mark z img t i ≢ 0). let one : mark z img t i ≡ 1 = omega (arith, mark-lt z img t i) in inl (one, e ∙ one))
@@ -112,7 +115,7 @@ history block img b a calls bytes = kept (shape block img) refl (accepted-holds 
           inImage = weigh-in m (mapOf block (run block img calls)) (λ F. sym (w′ F));
           asMany = as-many block (run block img calls) (shape block (run block img calls)) m h′ w′;
           keysOnce = keys block (run block img calls) (shape block (run block img calls)) m h′ w′;
-          chunksCovered = λ s t i hs mt hi. covered block (run block img calls) (shape block (run block img calls)) m h′ w′ s t i (rw st hs) mt (rw st hi);
+          chunksCovered = λ t i mt hi. covered block (run block img calls) (shape block (run block img calls)) m h′ w′ t i mt (rw st hi);
           tiersOnce = extra-once (shape block (run block img calls)) (run block img calls) (h′ .sound .chains);
           markedChunks = λ c e.
               marked block (run block img calls) (shape block (run block img calls)) m h′ w′ c e

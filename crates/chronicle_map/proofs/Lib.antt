@@ -4,5 +4,7 @@ pub mod Mapping
 pub mod Asking
 pub mod Calling
 pub mod Steps
+pub mod Covered
 pub mod Keeping
+pub mod Altering
 pub mod Worked

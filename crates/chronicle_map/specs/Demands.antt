@@ -3,23 +3,26 @@ use Prim.Native.Nat.{ℕ, _≤_, _<_}
 use mathlib.Core.List.{List, [], _∷_, _++_, List·Memᴰ}
 use mathlib.Core.Path.{_≡_}
 use mathlib.Core.Logic.{_≢_, _⊎_}
+use mathlib.Core.Bool.{Bool, _&&_}
 use mathlib.Core.Option.{Option, none, some}
 use lib.Dec.{eqb}
 use lib.ListN.{length}
 use Rattle.lists.specs.Lists.{howMany, total}
 use Rattle.words.specs.Bytes.{Bytes}
 use Rattle.settings.specs.declared.Settings.{Settings}
-use Rattle.settings.specs.Block.{settingsOf}
+use Rattle.settings.specs.Rules.{Valid}
+use Rattle.settings.specs.Block.{BlockFits, settingsOf}
 use Rattle.layout.specs.declared.Shape.{Shape}
 use Rattle.layout.specs.Tiers.{IsExtra}
 use Rattle.layout.specs.Places.{mark}
-use Rattle.layout.specs.Frame.{shapeOf}
-use Rattle.chains.specs.Chains.{chain, chainedExtra, freeChain}
+use Rattle.layout.specs.Frame.{shapeOf, FrameFits}
+use Rattle.chains.specs.Chains.{chained, chainedExtra, freeChain, ChainsFit}
 use Rattle.entries.specs.declared.Live.{Live}
 use Rattle.entries.specs.Keys.{KeyFits}
 use Rattle.entries.specs.Stored.{keyOf, valueOf, chunksFor}
-use Rattle.entries.specs.Live.{liveIn, live}
-use Rattle.chunks.specs.Chunks.{covers}
+use Rattle.entries.specs.Live.{live}
+use Rattle.search.specs.Rules.{EntriesFit}
+use Rattle.chunks.specs.Chunks.{covers, ChunksFit}
 use Rattle.upkeep.specs.Sound.{Pair}
 use Rattle.image.specs.declared.Counts.{Counts}
 use Rattle.image.specs.declared.Outcome.the-variants as outcome
@@ -45,6 +48,15 @@ ByteCalls (c ∷ cs) = ByteCall c × ByteCalls cs
 abbrev pub shape : List ℕ → List ℕ → Shape
 shape block img = shapeOf (settingsOf block) img
 
+-- the image fits the layout with the rules of the scope, stage by stage
+pub record Fits (block img : List ℕ) : Type 0 where
+  pub blockFits : BlockFits block
+  pub fieldsFit : Valid (settingsOf block)
+  pub frameFits : FrameFits (shape block img) img
+  pub chainsFit : ChainsFit (shape block img) img
+  pub entriesFit : EntriesFit (shape block img) img
+  pub chunksFit : ChunksFit (shape block img) img
+
 -- ---- demand 2, for an accepted image
 
 -- a lookup gives the record stored under the whole key, or says there is none
@@ -59,7 +71,21 @@ pub record Alters (block img img′ key : List ℕ) (p : Option Pair) : Type 0 w
   pub altered : mapGet (mapOf block img′) key ≡ p
   pub others : (other : List ℕ) → other ≢ key → mapGet (mapOf block img′) other ≡ mapGet (mapOf block img) other
 
+pub record Demand2 (block img : List ℕ) : Type 0 where
+  pub lookups : (key : List ℕ) → LooksUp block img key
+  -- a store or a removal answered 0 alters this key alone
+  pub stored : (key value : List ℕ) → Bytes key → Bytes value → answerNumber (store block img key value .answer) ≡ 0
+      → Alters block img (store block img key value .image) key (some (record { key = key; value = value }))
+  pub removed : (key : List ℕ) → Bytes key → answerNumber (remove block img key .answer) ≡ 0 → Alters block img (remove block img key .image) key none
+  -- one answered otherwise alters nothing
+  pub storeRefused : (key value : List ℕ) → answerNumber (store block img key value .answer) ≢ 0 → store block img key value .image ≡ img
+  pub removalRefused : (key : List ℕ) → answerNumber (remove block img key .answer) ≢ 0 → remove block img key .image ≡ img
+
 -- ---- demand 3, for an accepted image and any list of calls
+
+-- the entry covers chunk i of tier t
+abbrev pub coversIn : ℕ → ℕ → Live → Bool
+coversIn t i e = eqb (e .tier) t && covers i e
 
 pub record Kept (block img : List ℕ) (calls : List Call) (after : List ℕ) (map : Map) : Type 0 where
   -- each call answered what the map answers: the number and, when found, the record's bytes
@@ -71,9 +97,9 @@ pub record Kept (block img : List ℕ) (calls : List Call) (after : List ℕ) (m
   pub asMany : length (live (shape block after) after) ≡ length map
   pub keysOnce : (key : List ℕ) → howMany (mapOf block after) (hasKey key) ≤ 1
   -- a chunk of a chained tier is marked and covered by exactly one live entry, or clear and covered by none
-  pub chunksCovered : (s t i : ℕ) → s < settingsOf block .segments → List·Memᴰ t (chain (shape block after) after s) → i < settingsOf block .chunks
-      → ((mark (shape block after) after t i ≡ 1) × (howMany (liveIn (shape block after) after s t) (covers i) ≡ 1))
-      ⊎ ((mark (shape block after) after t i ≡ 0) × (howMany (liveIn (shape block after) after s t) (covers i) ≡ 0))
+  pub chunksCovered : (t i : ℕ) → List·Memᴰ t (chained (shape block after) after) → i < settingsOf block .chunks
+      → ((mark (shape block after) after t i ≡ 1) × (howMany (live (shape block after) after) (coversIn t i) ≡ 1))
+      ⊎ ((mark (shape block after) after t i ≡ 0) × (howMany (live (shape block after) after) (coversIn t i) ≡ 0))
   -- every extra tier stands once, in one segment's chain or in the free chain
   pub tiersOnce : (t : ℕ) → IsExtra (shape block after) t → howMany (chainedExtra (shape block after) after ++ freeChain (shape block after) after) (eqb t) ≡ 1
   -- the marked chunks that the check counts are the chunks that the map's keys and records require

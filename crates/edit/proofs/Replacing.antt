@@ -18,21 +18,19 @@ use Rattle.chains.specs.Chains.{chain}
 use Rattle.chains.proofs.Along.{chain-tiers}
 use Rattle.entries.specs.declared.Entry.{Entry}
 use Rattle.entries.specs.declared.Live.{Live}
-use Rattle.entries.specs.Keys.{segmentOf}
-use Rattle.entries.specs.Stored.{chunksFor, stored, entryOf}
+use Rattle.entries.specs.Keys.{KeyFits, segmentOf}
+use Rattle.entries.specs.Stored.{chunksFor, keyOf}
 use Rattle.entries.specs.Live.{slotAt, chunkOf, entryAt, liveAt, live}
 use Rattle.entries.proofs.LiveLists.{IsLive, live-in}
-use Rattle.entries.proofs.Whole.{entry-small, whole-sound, value-ends}
-use Rattle.layout.proofs.Chunks.{chunk-inside, chunks-inside}
-use Rattle.entries.specs.declared.Stored.{Stored}
-use Rattle.entries.specs.declared.Stored.the-variants.{Whole, Broken}
+use Rattle.entries.proofs.Whole.{entry-small}
 use Rattle.leb128.specs.Leb128.{largest}
 use Rattle.search.specs.declared.Found.{Found}
 use Rattle.search.specs.declared.Found.the-variants.{At, Absent}
 use Rattle.search.specs.Search.{search, ChainTiers}
-use Rattle.search.specs.Rules.{IsWhole, EntryFits}
+use Rattle.search.specs.Rules.{EntryFits}
 use Rattle.upkeep.specs.Sound.{SoundImage}
 use Rattle.upkeep.proofs.Recounting.{sound-image}
+use Rattle.upkeep.proofs.Marked.{entry-inside, entry-long}
 use Rattle.removal.specs.Removal.{removeAt}
 use Rattle.placement.specs.declared.Old.{Old}
 use Rattle.edit.specs.Edits.{find, withoutEntry, without}
@@ -69,34 +67,29 @@ module _ (z : Shape) (img : List ℕ) (sound : SoundImage z img) where
   pub live-tier : (e : Live) → IsLive z img e → IsTier z (e .tier)
   live-tier e l = sound-tiers (e .segment) (l .segmentIn) (e .tier) (l .tierIn)
 
+  live-fits : (e : Live) → IsLive z img e → EntryFits z img (e .segment) (e .tier) (e .slot)
+  live-fits e l = sound .entries .tiersFit (e .segment) (l .segmentIn) (e .tier) (l .tierIn) .slotsFit .full (e .slot) (l .slotIn) (l .full)
+
   live-range : (e : Live) → IsLive z img e → e .chunk + e .chunks ≤ chunks
   unfolding liveAt
   live-range e l =
       let c : e .chunk ≡ chunkOf z img (e .tier) (e .slot) = ap (λ (x : Live). x .chunk) (l .is) in
       let n : e .chunks ≡ chunksFor settings (entryAt z img (e .tier) (e .slot) .keyLength) (entryAt z img (e .tier) (e .slot) .valueLength) = ap (λ (x : Live). x .chunks) (l .is) in
-      omega (arith, c, n, sound .entries .tiersFit (e .segment) (l .segmentIn) (e .tier) (l .tierIn) .slotsFit .full (e .slot) (l .slotIn) (l .full) .rangeEnds)
+      omega (arith, c, n, live-fits e l .rangeEnds)
 
-  -- its record stands within the image
+  -- its record stands within the image, and its key is as long as keys are
   pub live-value : (e : Live) → IsLive z img e → e .entry .valueAt + e .entry .valueLength ≤ length img
-  unfolding liveAt entryAt
+  unfolding liveAt
   live-value e l =
-      let f : EntryFits z img (e .segment) (e .tier) (e .slot) = sound .entries .tiersFit (e .segment) (l .segmentIn) (e .tier) (l .tierIn) .slotsFit .full (e .slot) (l .slotIn) (l .full) in
-      subst (λ (x : Live). x .entry .valueAt + x .entry .valueLength ≤ length img) (sym (l .is)) (at-value (e .segment) (e .tier) (e .slot) (live-tier e l) f)
-    where
-      within : (t c : ℕ) → IsTier z t → (r : Stored) → stored z img t c ≡ r → IsWhole r → c + chunksFor settings (entryOf r .keyLength) (entryOf r .valueLength) ≤ chunks
-          → entryOf r .valueAt + entryOf r .valueLength ≤ length img
-      within t c it Broken q w h = absurd w
-      within t c it (Whole x) q w h =
-          omega (
-            arith,
-            value-ends z img t c (whole-sound z img t c x q) (sound .valid),
-            chunk-inside z t (c + chunksFor settings (x .keyLength) (x .valueLength)) h,
-            chunks-inside sound-framed t it,
-            sound-framed .within,
-          )
+      subst (λ (x : Live). x .entry .valueAt + x .entry .valueLength ≤ length img) (sym (l .is))
+      (entry-inside z img (e .segment) (e .tier) (e .slot) (sound-image z img sound) (live-tier e l) (live-fits e l) .1)
 
-      at-value : (s t j : ℕ) → IsTier z t → EntryFits z img s t j → liveAt z img s t j .entry .valueAt + liveAt z img s t j .entry .valueLength ≤ length img
-      at-value s t j it f = within t (chunkOf z img t j) it (stored z img t (chunkOf z img t j)) refl (f .whole) (f .rangeEnds)
+  pub live-key-fits : (e : Live) → IsLive z img e → KeyFits settings (length (keyOf img (e .entry)))
+  unfolding liveAt
+  live-key-fits e l =
+      let n : length (keyOf img (entryAt z img (e .tier) (e .slot))) ≡ entryAt z img (e .tier) (e .slot) .keyLength =
+      entry-long z img (e .segment) (e .tier) (e .slot) (sound-image z img sound) (live-tier e l) (live-fits e l) .0 in
+      subst (λ (x : Live). KeyFits settings (length (keyOf img (x .entry)))) (sym (l .is)) (rw n (live-fits e l .keyLength))
 
   module _ (key : List ℕ) where
     found-live : (e : Live) → find z img key ≡ some e → IsLive z img e

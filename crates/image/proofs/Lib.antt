@@ -1,4 +1,3 @@
-pub mod Worked
 pub mod Stages
 pub mod Ready
 pub mod Picking

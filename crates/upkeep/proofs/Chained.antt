@@ -34,7 +34,7 @@ module _ (z : Shape) (img : List ℕ) (fits : ChainsFit z img) where
   chain-segment s s′ t hs hs′ m m′ = sym (says-segment s t hs m) ∙ says-segment s′ t hs′ m′
 
   -- and once
-  chain-once : (s t : ℕ) → s < z .settings .segments → List·Memᴰ t (chain z img s) → howMany (chain z img s) (eqb t) ≡ 1
+  pub chain-once : (s t : ℕ) → s < z .settings .segments → List·Memᴰ t (chain z img s) → howMany (chain z img s) (eqb t) ≡ 1
   chain-once s t hs m =
       placed-once (λ u. get z img (tier u (counter order))) t (chain z img s) 0
       (λ i l. omega (arith, fits .segmentsFit s hs .standing i l .orderIs)) m

@@ -101,18 +101,26 @@ module _ (z : Shape) (img : List ℕ) where
 
   -- ---- what one entry needs
 
-  -- key and value stand within the image, so that their lengths are those that were read
-  whole-long : (t c : ℕ) → Image z img → IsTier z t → (r : Stored) → stored z img t c ≡ r → IsWhole r
+  -- key and value stand within the image
+  pub whole-inside : (t c : ℕ) → Image z img → IsTier z t → (r : Stored) → stored z img t c ≡ r → IsWhole r
       → c + chunksFor settings (entryOf r .keyLength) (entryOf r .valueLength) ≤ chunks
-      → (length (keyOf img (entryOf r)) ≡ entryOf r .keyLength) × (length (valueOf img (entryOf r)) ≡ entryOf r .valueLength)
-  whole-long t c im it Broken e w h = absurd w
-  whole-long t c im it (Whole x) e w h =
+      → (entryOf r .keyAt + entryOf r .keyLength ≤ length img) × (entryOf r .valueAt + entryOf r .valueLength ≤ length img)
+  whole-inside t c im it Broken e w h = absurd w
+  whole-inside t c im it (Whole x) e w h =
       let a : WholeAt z img t c x = whole-sound z img t c x e in
       let n : ℕ = c + chunksFor settings (x .keyLength) (x .valueLength) in (
-        length-cut img (x .keyAt) (x .keyLength) (key-in-image z img t c a (im .framed) it),
-        length-cut img (x .valueAt) (x .valueLength)
-            (omega (arith, value-ends z img t c a (im .framed .valid), chunk-inside z t n h, chunks-inside (im .framed) t it, im .framed .within)),
+        key-in-image z img t c a (im .framed) it,
+        omega (arith, value-ends z img t c a (im .framed .valid), chunk-inside z t n h, chunks-inside (im .framed) t it, im .framed .within),
       )
+
+  -- of the entry of a full slot; so its lengths are those that were read
+  module _ (s t j : ℕ) (im : Image z img) (it : IsTier z t) (f : EntryFits z img s t j) where
+    pub entry-inside : (entryAt z img t j .keyAt + entryAt z img t j .keyLength ≤ length img) × (entryAt z img t j .valueAt + entryAt z img t j .valueLength ≤ length img)
+    unfolding entryAt
+    entry-inside = whole-inside t (chunkOf z img t j) im it (stored z img t (chunkOf z img t j)) refl (f .whole) (f .rangeEnds)
+
+    pub entry-long : (length (keyOf img (entryAt z img t j)) ≡ entryAt z img t j .keyLength) × (length (valueOf img (entryAt z img t j)) ≡ entryAt z img t j .valueLength)
+    entry-long = (length-cut img _ _ (entry-inside .0), length-cut img _ _ (entry-inside .1))
 
   -- the chunks that a pair needs
   abbrev needs : Pair → ℕ
@@ -120,9 +128,7 @@ module _ (z : Shape) (img : List ℕ) where
 
   entry-needs : (s t j : ℕ) → Image z img → IsTier z t → EntryFits z img s t j → liveAt z img s t j .chunks ≡ needs (pairFor z img t (slotAt z img t j))
   unfolding liveAt entryAt
-  entry-needs s t j im it f =
-      let q : _ = whole-long t (chunkOf z img t j) im it (stored z img t (chunkOf z img t j)) refl (f .whole) (f .rangeEnds) in
-      rw (q .0, q .1)
+  entry-needs s t j im it f = let q : _ = entry-long s t j im it f in rw (q .0, q .1)
 
   entry-ends : (s t : ℕ) → SlotsFit z img s t → Every (liveIn z img s t) (λ e. e .chunk + e .chunks ≤ chunks)
   entry-ends s t fits e m =
