@@ -1,5 +1,8 @@
-# Two commands: `make demo` and `make test`.
-.PHONY: test demo vectors cases
+# Two commands: `make demo` and `make test`. `make lib` and `make example` are for C and Rust; `make bench` measures.
+.PHONY: test demo lib example differential bench valgrind fuzz faults vectors cases
+
+# Everything that is built goes to target/.
+CARGO = CARGO_TARGET_DIR=$(CURDIR)/target/cargo cargo
 
 # The whole gate.
 test:
@@ -9,6 +12,47 @@ test:
 demo:
 	rt check lister
 	target/bin/lister < crates/lister/stdin
+
+# The archive that C and Rust programs link, with include/chronicle_map.h: target/staticlib/libchronicle_map_c.a.
+lib:
+	rt staticlib chronicle_map_c
+
+# Builds the example in C and looks up both pairs of the sample store.
+example: lib examples/pairs.store
+	gcc -std=c99 -Wall -Wextra -Werror -Iinclude examples/lookup.c target/staticlib/libchronicle_map_c.a -o target/lookup
+	target/lookup examples/pairs.store 1 2
+	target/lookup examples/pairs.store 2 1
+
+# The lister's sample without the length between block and image.
+examples/pairs.store: crates/lister/stdin
+	(head -c 71 $<; tail -c +76 $<) > $@
+
+# The independent implementation's own tests, then the library against it: random stores, histories and damaged images.
+differential: lib
+	cd tests/reference && $(CARGO) test --release --offline -q
+	cd bindings/rust && $(CARGO) test --offline -q
+	cd tests/differential && $(CARGO) run --release --offline -q -- $(ARGS)
+
+# Ratios against the independent implementation and, where Debian's libxxhash-dev is installed, against its hash.
+bench: lib
+	cd tests/bench && $(CARGO) run --release --offline -q $(if $(wildcard /usr/include/xxhash.h),--features xxhash)
+
+# A short run of the differential tests under valgrind.
+valgrind: lib
+	cd tests/differential && $(CARGO) build --release --offline -q
+	valgrind -q --error-exitcode=1 target/cargo/release/differential --count 400
+
+# The fuzz target over arbitrary bytes, for SECONDS (clang's libFuzzer).
+SECONDS = 120
+fuzz: lib
+	mkdir -p target/fuzz/corpus
+	clang -O1 -g -fsanitize=fuzzer -Iinclude tests/fuzz/calls.c target/staticlib/libchronicle_map_c.a -o target/fuzz/calls
+	tests/fuzz/seeds target/fuzz/seeds
+	cd target/fuzz && ./calls -max_total_time=$(SECONDS) -max_len=70000 corpus seeds
+
+# Plants faults in copies of the independent implementation and sees whether the differential tests find each; writes docs/TESTING.md's table.
+faults:
+	tests/faults/plant.py
 
 # Makes the stored inputs of the lister again and compares what it prints.
 cases:

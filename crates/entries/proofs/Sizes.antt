@@ -14,7 +14,7 @@ use Rattle.entries.specs.Stored.{valueOffset, entrySize, chunksFor, entr
 
 -- ---- a quotient rounded up
 
-ceil-enough : (a b : ℕ) → 0 < b → a ≤ ceil a b * b
+pub ceil-enough : (a b : ℕ) → 0 < b → a ≤ ceil a b * b
 ceil-enough a b h = omega (arith, div-add-mod' (a + b - 1) b, mod-lt (a + b - 1) h)
 
 ceil-pos : (a b : ℕ) → 0 < a → 0 < b → 0 < ceil a b

@@ -28,7 +28,7 @@ use Rattle.search.specs.Rules.{SomeEmpty, TierFits}
 use Rattle.search.proofs.Slots.{slots-lawful}
 use Rattle.search.proofs.Landing.{good}
 use Rattle.placement.specs.Placement.{written, slotted}
-use Rattle.upkeep.proofs.Values.{ifFull}
+use Rattle.upkeep.proofs.Values.{ifFull, full-is, empty-is}
 use Rattle.upkeep.proofs.Sums.{full-total, table-same}
 use Rattle.placement.proofs.Before.{numberFor, Places, image, is-tier, entry-room, entry-bytes, number-full, number-fits, number-key}
 use Rattle.placement.proofs.Writing.{filled, Writes}
@@ -44,14 +44,6 @@ empty-and-full : {M : Type 0} (𝓣 : Table M) (m : M) (n : ℕ) → Table·tota
 unfolding Table·total
 empty-and-full 𝓣 m zero = refl
 empty-and-full 𝓣 m (suc n) = omega (arith, one-or-full (𝓣 .get m n), empty-and-full 𝓣 m n)
-
-pub full-is : (f : ℕ → ℕ) (v : ℕ) → v ≢ 0 → ifFull f v ≡ f v
-unfolding ifFull
-full-is f v ne = rw (ne-eqb v 0 ne, ifFull)
-
-none-is : (f : ℕ → ℕ) → ifFull f 0 ≡ 0
-unfolding ifFull
-none-is f = refl
 
 -- ---- the slot that is filled, and the image then
 
@@ -164,7 +156,7 @@ module _ (z : Shape) (img : List ℕ) (s t c : ℕ) (key value : List ℕ) (p : 
       omega (
         arith,
         insert-totals (slotsOf z t) law m v e ok (number-fits z img s t c key value p) (number-full z img s t c key value p) em (ifFull f′),
-        none-is f′,
+        empty-is f′ 0 refl,
         full-is f′ v (number-full z img s t c key value p),
         table-same z t img m f f′ same g,
       )

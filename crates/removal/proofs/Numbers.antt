@@ -18,32 +18,24 @@ use Rattle.entries.specs.Live.{slotAt, chunkOf}
 use Rattle.search.specs.Search.{slotsOf}
 use Rattle.search.specs.Rules.{chunksAt, SomeEmpty, TierFits}
 use Rattle.search.proofs.Landing.{good}
-use Rattle.upkeep.proofs.Values.{ifFull}
+use Rattle.upkeep.proofs.Values.{ifFull, full-is, empty-is}
 use Rattle.upkeep.proofs.Sums.{table-same}
 use Rattle.search.proofs.Slots.{slots-lawful}
 use Rattle.removal.proofs.Twice.{total-two, total-once}
 use Rattle.removal.proofs.Slots.{cleared, without, cleared-image, cleared-slot}
-
-pub if-full : (f : ℕ → ℕ) (v : ℕ) → v ≢ 0 → ifFull f v ≡ f v
-unfolding ifFull
-if-full f v ne = rw (ne-eqb v 0 ne, ifFull)
-
-pub if-empty : (f : ℕ → ℕ) → ifFull f 0 ≡ 0
-unfolding ifFull
-if-empty f = refl
 
 -- 1 where a full slot holds v
 abbrev is-it : ℕ → ℕ → ℕ
 is-it v = ifFull (one-at v)
 
 is-it-same : (v x : ℕ) → v ≢ 0 → x ≡ v → is-it v x ≡ 1
-is-it-same v x ne e = ap (is-it v) e ∙ if-full (one-at v) v ne ∙ one-at-same v
+is-it-same v x ne e = ap (is-it v) e ∙ full-is (one-at v) v ne ∙ one-at-same v
 
 is-it-pos : (v x : ℕ) → 0 < is-it v x → x ≡ v
 is-it-pos v x h =
     ⊎-elim
-    (λ (e : x ≡ 0). absurd (omega (arith, ap (is-it v) e, if-empty (one-at v))))
-    (λ (e : x ≢ 0). one-at-pos v x (omega (arith, if-full (one-at v) x e)))
+    (λ (e : x ≡ 0). absurd (omega (arith, ap (is-it v) e, empty-is (one-at v) 0 refl)))
+    (λ (e : x ≢ 0). one-at-pos v x (omega (arith, full-is (one-at v) x e)))
     (same-or x 0)
 
 is-it-small : (v x : ℕ) → v ≢ 0 → is-it v x ≤ 1
@@ -97,7 +89,7 @@ module _ {z : Shape} {img : List ℕ} {s t j c n : ℕ} (w : Removable z img s t
 
   -- what is known of every sum
   pub sums : (f : ℕ → ℕ) → total (slotsOf z t) (ifFull f) new slots + f (slotAt z img t j) ≡ total (slotsOf z t) (ifFull f) img slots
-  sums f = omega (arith, gone .totals (ifFull f), if-empty f, ap (ifFull f) (slot-kept j (w .slotIn)), if-full f (slotAt z img t j) (w .full), table-same z t img old f f slot-kept (λ k hk fk. refl))
+  sums f = omega (arith, gone .totals (ifFull f), empty-is f 0 refl, ap (ifFull f) (slot-kept j (w .slotIn)), full-is f (slotAt z img t j) (w .full), table-same z t img old f f slot-kept (λ k hk fk. refl))
 
   pub new-empty : SomeEmpty z new t
   new-empty =

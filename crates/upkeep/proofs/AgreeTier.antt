@@ -24,6 +24,7 @@ use Rattle.entries.specs.declared.Stored.the-variants.{Whole, Broken}
 use Rattle.entries.specs.Keys.{KeyFits, segmentOf, lookupKey, start, slotChunk, slotKey, slotRest}
 use Rattle.entries.specs.Stored.{stored, entryOf, keyOf, valueOf, entrySize, chunksFor}
 use Rattle.entries.specs.Live.{slotAt, entryAt, fullSlots, liveAt, liveIn}
+use Rattle.entries.proofs.Sizes.{ceil-enough}
 use Rattle.entries.proofs.Whole.{WholeAt, whole-sound, stored-ext, key-before}
 use Rattle.entries.proofs.LiveLists.{fullSlots-in, live-made}
 use Rattle.probe.specs.Ring.{dist}
@@ -75,9 +76,7 @@ module _ (z : Shape) (img : List ℕ) (u c : ℕ) where
 
   chunks-hold : (e : Entry) → WholeAt z img u c e → entrySize settings (e .keyLength) (e .valueLength) ≤ chunksFor settings (e .keyLength) (e .valueLength) * chunkSize
   unfolding chunksFor
-  chunks-hold e w =
-      let n : ℕ = entrySize settings (e .keyLength) (e .valueLength) in
-      omega (arith, size-pos e w, div-add-mod' (n + chunkSize - 1) chunkSize, mod-lt (n + chunkSize - 1) (size-pos e w))
+  chunks-hold e w = ceil-enough (entrySize settings (e .keyLength) (e .valueLength)) chunkSize (size-pos e w)
 
   whole-inside : (e : Entry) → WholeAt z img u c e → c + chunksFor settings (e .keyLength) (e .valueLength) ≤ chunks → Inside z u e
   whole-inside e w h =

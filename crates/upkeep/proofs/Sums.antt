@@ -22,18 +22,10 @@ use Rattle.entries.specs.declared.Live.{Live}
 use Rattle.entries.specs.Live.{slotAt, fullSlots, entryAt, liveAt, liveIn, liveOf, live}
 use Rattle.search.specs.Search.{slotsOf}
 use Rattle.upkeep.specs.Sound.{Pair, pairOf, pairsOf}
-use Rattle.upkeep.proofs.Values.{pairFor, ifFull, weigh}
+use Rattle.upkeep.proofs.Values.{pairFor, ifFull, full-is, empty-is, weigh}
 use Rattle.lists.proofs.Totals.{total-map, total-flatMap, total-same, length-total}
 
 -- ---- over a tier's slots
-
-full-is : (f : ℕ → ℕ) (v : ℕ) → v ≢ 0 → ifFull f v ≡ f v
-unfolding ifFull
-full-is f v h = rw (ne-eqb v 0 h, ifFull)
-
-empty-is : (f : ℕ → ℕ) (v : ℕ) → v ≡ 0 → ifFull f v ≡ 0
-unfolding ifFull
-empty-is f v h = rw (eq-eqb v 0 h, ifFull)
 
 module _ {M : Type 0} (𝓣 : Table M) (m : M) where
   open Table 𝓣 using (get)

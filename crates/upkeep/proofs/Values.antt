@@ -3,6 +3,9 @@ use Prim.Native.Nat.{ℕ}
 use mathlib.Core.List.{List}
 use mathlib.Core.Bool.{true, false}
 use lib.Dec.{eqb}
+use mathlib.Core.Path.{_≡_}
+use mathlib.Core.Logic.{_≢_}
+use borrow.Author.Tests.{eq-eqb, ne-eqb}
 use Rattle.settings.specs.declared.Settings.{Settings}
 use Rattle.layout.specs.declared.Shape.{Shape}
 use Rattle.probe.specs.Table.{total as Table·total}
@@ -22,6 +25,14 @@ pairFor z img t v = record { key = keyOf img (entryFor z img t v); value = value
 -- f of a full slot's number, 0 for an empty slot
 unfoldable pub ifFull : (ℕ → ℕ) → ℕ → ℕ
 ifFull f v = elim (eqb v 0) [ true ↦ 0 | false ↦ f v ]
+
+pub full-is : (f : ℕ → ℕ) (v : ℕ) → v ≢ 0 → ifFull f v ≡ f v
+unfolding ifFull
+full-is f v h = rw (ne-eqb v 0 h, ifFull)
+
+pub empty-is : (f : ℕ → ℕ) (v : ℕ) → v ≡ 0 → ifFull f v ≡ 0
+unfolding ifFull
+empty-is f v h = rw (eq-eqb v 0 h, ifFull)
 
 -- the sum of F over the keys and records of tier t's full slots
 unfoldable pub weigh : Shape → List ℕ → (Pair → ℕ) → ℕ → ℕ

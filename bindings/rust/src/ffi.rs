@@ -1,0 +1,130 @@
+//! The functions of `include/chronicle_map.h`, each behind a safe one of the same name: the only unsafe code of this crate.
+//!
+//! What the header asks of a caller is what the types here say. A slice's pointer is never null and has as many bytes
+//! as its length; what is `&mut` overlaps nothing and nobody else touches it; what is `&` nobody writes to. The functions
+//! ask nothing else.
+
+mod c {
+    extern "C" {
+        pub fn chronicle_map_check(
+            block: *const u8,
+            block_len: usize,
+            image: *const u8,
+            image_len: usize,
+            counts: *mut u64,
+        ) -> u32;
+        pub fn chronicle_map_lookup(
+            block: *const u8,
+            block_len: usize,
+            image: *const u8,
+            image_len: usize,
+            key: *const u8,
+            key_len: usize,
+            place: *mut u64,
+        ) -> u32;
+        pub fn chronicle_map_store(
+            block: *const u8,
+            block_len: usize,
+            image: *mut u8,
+            image_len: usize,
+            key: *const u8,
+            key_len: usize,
+            value: *const u8,
+            value_len: usize,
+        ) -> u32;
+        pub fn chronicle_map_remove(
+            block: *const u8,
+            block_len: usize,
+            image: *mut u8,
+            image_len: usize,
+            key: *const u8,
+            key_len: usize,
+        ) -> u32;
+        pub fn chronicle_map_entry(
+            block: *const u8,
+            block_len: usize,
+            image: *const u8,
+            image_len: usize,
+            n: u64,
+            row: *mut u64,
+        ) -> u32;
+        pub fn chronicle_map_xxh64(bytes: *const u8, len: usize) -> u64;
+    }
+}
+
+pub fn check(block: &[u8], image: &[u8], counts: &mut [u64; 4]) -> u32 {
+    // SAFETY: the parameters' types say all that the C function asks (see above).
+    unsafe {
+        c::chronicle_map_check(
+            block.as_ptr(),
+            block.len(),
+            image.as_ptr(),
+            image.len(),
+            counts.as_mut_ptr(),
+        )
+    }
+}
+
+pub fn lookup(block: &[u8], image: &[u8], key: &[u8], place: &mut [u64; 2]) -> u32 {
+    // SAFETY: as in `check`.
+    unsafe {
+        c::chronicle_map_lookup(
+            block.as_ptr(),
+            block.len(),
+            image.as_ptr(),
+            image.len(),
+            key.as_ptr(),
+            key.len(),
+            place.as_mut_ptr(),
+        )
+    }
+}
+
+pub fn store(block: &[u8], image: &mut [u8], key: &[u8], value: &[u8]) -> u32 {
+    // SAFETY: as in `check`.
+    unsafe {
+        c::chronicle_map_store(
+            block.as_ptr(),
+            block.len(),
+            image.as_mut_ptr(),
+            image.len(),
+            key.as_ptr(),
+            key.len(),
+            value.as_ptr(),
+            value.len(),
+        )
+    }
+}
+
+pub fn remove(block: &[u8], image: &mut [u8], key: &[u8]) -> u32 {
+    // SAFETY: as in `check`.
+    unsafe {
+        c::chronicle_map_remove(
+            block.as_ptr(),
+            block.len(),
+            image.as_mut_ptr(),
+            image.len(),
+            key.as_ptr(),
+            key.len(),
+        )
+    }
+}
+
+pub fn entry(block: &[u8], image: &[u8], n: u64, row: &mut [u64; 7]) -> u32 {
+    // SAFETY: as in `check`.
+    unsafe {
+        c::chronicle_map_entry(
+            block.as_ptr(),
+            block.len(),
+            image.as_ptr(),
+            image.len(),
+            n,
+            row.as_mut_ptr(),
+        )
+    }
+}
+
+pub fn xxh64(bytes: &[u8]) -> u64 {
+    // SAFETY: as in `check`.
+    unsafe { c::chronicle_map_xxh64(bytes.as_ptr(), bytes.len()) }
+}

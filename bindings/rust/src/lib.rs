@@ -1,0 +1,205 @@
+//! Safe calls of a proved library over a lent Chronicle Map memory image.
+//!
+//! Each call is given a settings block (71 bytes, which say how the image is laid out) and the image, and checks both
+//! itself before it does anything else. Any bytes may be given: where they are wrong the call answers a [`Refusal`].
+//! A call that refuses leaves the image as it was.
+//!
+//! ```no_run
+//! # fn delay(block: &[u8], image: &mut [u8]) -> Result<(), chronicle_map::Refusal> {
+//! chronicle_map::store(block, image, &[1, 2], &16i32.to_le_bytes())?;
+//! if let Some(record) = chronicle_map::record(block, image, &[1, 2])? {
+//!     println!("{record:?}");
+//! }
+//! # Ok(())
+//! # }
+//! ```
+#![deny(unsafe_code)]
+#![warn(missing_docs)]
+
+use std::error::Error;
+use std::fmt;
+use std::ops::Range;
+
+#[allow(unsafe_code)]
+mod ffi;
+
+/// Why a call refuses: the lowest that applies, in this order.
+#[derive(Clone, Copy, Debug, PartialEq, Eq, Hash)]
+pub enum Refusal {
+    /// 2: the block's length, its length field or its version is wrong.
+    Block = 2,
+    /// 3: a field of the block breaks its rule.
+    Field = 3,
+    /// 4: the image's length, its offsets or its store size is wrong.
+    Frame = 4,
+    /// 5: the chains of tiers are broken.
+    Chains = 5,
+    /// 6: a slot or an entry is broken.
+    Entries = 6,
+    /// 7: the marks of chunks or the counters do not fit the entries.
+    Chunks = 7,
+    /// 8: the key is empty or longer than 1,024 bytes.
+    Key = 8,
+    /// 9: the record is longer than 65,535 bytes, or takes more chunks than an entry may.
+    Value = 9,
+    /// 10: no tier has room for the entry, and none is free.
+    Full = 10,
+}
+
+impl Refusal {
+    /// The number of the C interface, 2 to 10.
+    pub fn number(self) -> u32 {
+        self as u32
+    }
+
+    fn of(number: u32) -> Refusal {
+        match number {
+            2 => Refusal::Block,
+            3 => Refusal::Field,
+            4 => Refusal::Frame,
+            5 => Refusal::Chains,
+            6 => Refusal::Entries,
+            7 => Refusal::Chunks,
+            8 => Refusal::Key,
+            9 => Refusal::Value,
+            10 => Refusal::Full,
+            other => unreachable!("the library's contracts allow no answer {other} here"),
+        }
+    }
+}
+
+impl fmt::Display for Refusal {
+    fn fmt(&self, f: &mut fmt::Formatter<'_>) -> fmt::Result {
+        let reason = match self {
+            Refusal::Block => "the block's length, length field or version is wrong",
+            Refusal::Field => "a field of the block breaks its rule",
+            Refusal::Frame => "the image's length, offsets or store size is wrong",
+            Refusal::Chains => "the chains of tiers are broken",
+            Refusal::Entries => "a slot or an entry is broken",
+            Refusal::Chunks => "the marks of chunks or the counters do not fit the entries",
+            Refusal::Key => "the key is empty or longer than 1,024 bytes",
+            Refusal::Value => "the record is too long",
+            Refusal::Full => "no tier has room for the entry",
+        };
+        write!(f, "refused {}: {reason}", self.number())
+    }
+}
+
+impl Error for Refusal {}
+
+/// What the check counts over an accepted image.
+#[derive(Clone, Copy, Debug, PartialEq, Eq, Hash)]
+pub struct Counts {
+    /// Live entries.
+    pub entries: u64,
+    /// Marked chunks.
+    pub chunks: u64,
+    /// Tiers in the segments' chains.
+    pub tiers: u64,
+    /// Tiers in the free chain.
+    pub free: u64,
+}
+
+/// Where a live entry stands, and its lengths.
+#[derive(Clone, Copy, Debug, PartialEq, Eq, Hash)]
+pub struct Row {
+    /// The segment, from 0.
+    pub segment: u64,
+    /// The tier, from 1.
+    pub tier: u64,
+    /// The slot, from 0.
+    pub slot: u64,
+    /// The first chunk, from 0.
+    pub chunk: u64,
+    /// How many chunks the entry takes.
+    pub chunks: u64,
+    /// The length of the key in bytes.
+    pub key_length: u64,
+    /// The length of the record in bytes.
+    pub value_length: u64,
+}
+
+/// Checks the block and the whole image. Refusals: `Block` to `Chunks`.
+pub fn check(block: &[u8], image: &[u8]) -> Result<Counts, Refusal> {
+    let mut counts = [0; 4];
+    match ffi::check(block, image, &mut counts) {
+        0 => {
+            let [entries, chunks, tiers, free] = counts;
+            Ok(Counts {
+                entries,
+                chunks,
+                tiers,
+                free,
+            })
+        }
+        number => Err(Refusal::of(number)),
+    }
+}
+
+/// Where in the image the record of a key stands; `None` where the key is absent. Refusals: `Block` to `Key`.
+///
+/// Keys are compared whole. The range lies within the image and may be empty.
+pub fn lookup(block: &[u8], image: &[u8], key: &[u8]) -> Result<Option<Range<usize>>, Refusal> {
+    let mut place = [0; 2];
+    match ffi::lookup(block, image, key, &mut place) {
+        0 => {
+            let [at, length] = place.map(|n| n as usize);
+            Ok(Some(at..at + length))
+        }
+        1 => Ok(None),
+        number => Err(Refusal::of(number)),
+    }
+}
+
+/// The record of a key, as a part of the image; `None` where the key is absent. Refusals: `Block` to `Key`.
+pub fn record<'a>(block: &[u8], image: &'a [u8], key: &[u8]) -> Result<Option<&'a [u8]>, Refusal> {
+    Ok(lookup(block, image, key)?.map(|place| &image[place]))
+}
+
+/// Stores a record under a key, or replaces the one that is there. Every other key keeps its record. Refusals: all.
+pub fn store(block: &[u8], image: &mut [u8], key: &[u8], value: &[u8]) -> Result<(), Refusal> {
+    match ffi::store(block, image, key, value) {
+        0 => Ok(()),
+        number => Err(Refusal::of(number)),
+    }
+}
+
+/// Removes a key with its record, and says whether it was there. Every other key keeps its record. Refusals: `Block` to `Key`.
+pub fn remove(block: &[u8], image: &mut [u8], key: &[u8]) -> Result<bool, Refusal> {
+    match ffi::remove(block, image, key) {
+        0 => Ok(true),
+        1 => Ok(false),
+        number => Err(Refusal::of(number)),
+    }
+}
+
+/// The n-th live entry, n from 0, by segment, order of its tiers, slot; `None` past the last. Refusals: `Block` to `Chunks`.
+///
+/// Each call checks the whole image anew.
+pub fn entry(block: &[u8], image: &[u8], n: u64) -> Result<Option<Row>, Refusal> {
+    let mut row = [0; 7];
+    match ffi::entry(block, image, n, &mut row) {
+        0 => {
+            let [segment, tier, slot, chunk, chunks, key_length, value_length] = row;
+            Ok(Some(Row {
+                segment,
+                tier,
+                slot,
+                chunk,
+                chunks,
+                key_length,
+                value_length,
+            }))
+        }
+        1 => Ok(None),
+        number => Err(Refusal::of(number)),
+    }
+}
+
+/// The XXH64 hash of some bytes, with seed 0: the hash by which keys are placed.
+pub fn xxh64(bytes: &[u8]) -> u64 {
+    ffi::xxh64(bytes)
+}
+
+#[cfg(test)]
+mod tests;

@@ -1,0 +1,20 @@
+use Rattle.chronicle_map_c.proofs.Telling.{edited}
+use borrow.Author.Needs.{needs}
+use Rattle.chronicle_map_c.proofs.chronicle_map_store.Statement.{statement}
+use Rattle.chronicle_map_c.proofs.chronicle_map_store.Tie as tie
+
+store-requires : tie.Need-store-requires
+store-requires c κs = search needs
+
+answer-number-requires : tie.Need-answer-number-requires
+answer-number-requires c κs = search needs
+
+same-length : tie.Need-same-length
+same-length c = search needs
+
+returns : tie.Need-returns
+returns c = edited (c .answer-number .ensures) (c .before .before .before .store .ensures)
+
+pub chronicle-map-store-spec : {M : Type 1} → statement M
+chronicle-map-store-spec =
+    tie.close (tie.spec store-requires answer-number-requires same-length returns)

@@ -1,0 +1,31 @@
+-- What each exported function answers, in numbers, and the image on return.
+use Prim.Native.Nat.{ℕ}
+use mathlib.Core.List.{List}
+use Rattle.image.specs.Check.{check, verdictNumbers}
+use Rattle.image.specs.List.{entry, listedNumbers}
+use Rattle.chronicle_map.specs.Calls.{lookup, lookupNumbers, answerNumber, store, remove}
+
+-- ---- the number that is returned, then those of the out array
+
+abbrev pub checkAnswer : List ℕ → List ℕ → List ℕ
+checkAnswer block img = verdictNumbers (check block img)
+
+abbrev pub lookupAnswer : List ℕ → List ℕ → List ℕ → List ℕ
+lookupAnswer block img key = lookupNumbers (lookup block img key)
+
+abbrev pub entryAnswer : List ℕ → List ℕ → ℕ → List ℕ
+entryAnswer block img n = listedNumbers (entry block img n)
+
+-- ---- the number that is returned, and every byte of the image on return
+
+abbrev pub storeAnswer : List ℕ → List ℕ → List ℕ → List ℕ → ℕ
+storeAnswer block img key value = answerNumber (store block img key value .answer)
+
+abbrev pub storeLeaves : List ℕ → List ℕ → List ℕ → List ℕ → List ℕ
+storeLeaves block img key value = store block img key value .image
+
+abbrev pub removeAnswer : List ℕ → List ℕ → List ℕ → ℕ
+removeAnswer block img key = answerNumber (remove block img key .answer)
+
+abbrev pub removeLeaves : List ℕ → List ℕ → List ℕ → List ℕ
+removeLeaves block img key = remove block img key .image

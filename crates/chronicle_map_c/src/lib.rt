@@ -1,0 +1,144 @@
+// The calls for C and Rust (include/chronicle_map.h). Each returns the number of its answer; what it
+// tells beside that goes to an array of the caller's, which is written on every call.
+use chronicle_map::Answer;
+use chronicle_map::Located;
+use image::Listed;
+use image::Outcome;
+use image::Stage;
+ghost use mathlib.Core.Path.{_≡_};
+ghost use mathlib.Core.List.{_∷_};
+ghost use Rattle.xxh64.specs.Hash.{xxh64 as Hash·xxh64};
+ghost use Rattle.image.specs.Check.{stageNumber};
+ghost use Rattle.chronicle_map.specs.Calls.{answerNumber};
+ghost use Rattle.chronicle_map_c.specs.Numbers.{checkAnswer, lookupAnswer, entryAnswer, storeAnswer, storeLeaves, removeAnswer, removeLeaves};
+
+fn stage_number(stage: Stage) -> u32
+    ensures { λ r. ⌜ r ≡ stageNumber stage ⌝ }
+{
+    match stage {
+        Stage::Block => 2,
+        Stage::Field => 3,
+        Stage::Frame => 4,
+        Stage::Chains => 5,
+        Stage::Entries => 6,
+        Stage::Chunks => 7,
+        Stage::Key => 8,
+        Stage::Value => 9,
+    }
+}
+
+fn answer_number(answer: Answer) -> u32
+    ensures { λ r. ⌜ r ≡ answerNumber answer ⌝ }
+{
+    match answer {
+        Answer::Done => 0,
+        Answer::Absent => 1,
+        Answer::Full => 10,
+        Answer::Refused(stage) => stage_number(stage),
+    }
+}
+
+// The check. The array: live entries, marked chunks, chained tiers, free tiers.
+#[no_mangle]
+pub extern "C" fn chronicle_map_check(block: &[u8], img: &[u8], counts: &mut [u64; 4]) -> u32
+    ensures { λ r. ⌜ r ∷ now (counts .exit) ≡ checkAnswer (now (block .entry)) (now (img .entry)) ⌝ }
+{
+    let verdict = chronicle_map::check(block, img);
+    let outcome = verdict.outcome;
+    match outcome {
+        Outcome::Accepted(c) => {
+            *counts = [
+                c.entries as u64,
+                c.chunks as u64,
+                c.tiers as u64,
+                c.free as u64,
+            ];
+            0
+        }
+        Outcome::Refused(stage) => {
+            *counts = [0; 4];
+            stage_number(stage)
+        }
+    }
+}
+
+// A lookup. The array: where the record starts in the image, and its length.
+#[no_mangle]
+pub extern "C" fn chronicle_map_lookup(
+    block: &[u8],
+    img: &[u8],
+    key: &[u8],
+    place: &mut [u64; 2],
+) -> u32
+    ensures { λ r. ⌜ r ∷ now (place .exit) ≡ lookupAnswer (now (block .entry)) (now (img .entry)) (now (key .entry)) ⌝ }
+{
+    match chronicle_map::lookup(block, img, key) {
+        Located::Found(at, n) => {
+            *place = [at as u64, n as u64];
+            0
+        }
+        Located::Absent => {
+            *place = [0; 2];
+            1
+        }
+        Located::Refused(stage) => {
+            *place = [0; 2];
+            stage_number(stage)
+        }
+    }
+}
+
+// Stores a record under a key, or replaces the one that is there.
+#[no_mangle]
+pub extern "C" fn chronicle_map_store(block: &[u8], img: &mut [u8], key: &[u8], value: &[u8]) -> u32
+    ensures { λ r. ⌜ r ≡ storeAnswer (now (block .entry)) (now (img .entry)) (now (key .entry)) (now (value .entry)) ⌝ }
+    ensures { λ _. ⌜ now (img .exit) ≡ storeLeaves (now (block .entry)) (now (img .entry)) (now (key .entry)) (now (value .entry)) ⌝ }
+{
+    answer_number(chronicle_map::store(block, img, key, value))
+}
+
+// Removes the entry of a key.
+#[no_mangle]
+pub extern "C" fn chronicle_map_remove(block: &[u8], img: &mut [u8], key: &[u8]) -> u32
+    ensures { λ r. ⌜ r ≡ removeAnswer (now (block .entry)) (now (img .entry)) (now (key .entry)) ⌝ }
+    ensures { λ _. ⌜ now (img .exit) ≡ removeLeaves (now (block .entry)) (now (img .entry)) (now (key .entry)) ⌝ }
+{
+    answer_number(chronicle_map::remove(block, img, key))
+}
+
+// The n-th live entry, n from 0. The array: the seven numbers of a lister line.
+#[no_mangle]
+pub extern "C" fn chronicle_map_entry(block: &[u8], img: &[u8], n: u64, row: &mut [u64; 7]) -> u32
+    ensures { λ r. ⌜ r ∷ now (row .exit) ≡ entryAnswer (now (block .entry)) (now (img .entry)) n ⌝ }
+{
+    match chronicle_map::entry(block, img, n as usize) {
+        Listed::Row(e) => {
+            *row = [
+                e.segment as u64,
+                e.tier as u64,
+                e.slot as u64,
+                e.chunk as u64,
+                e.chunks as u64,
+                e.entry.keyLength as u64,
+                e.entry.valueLength as u64,
+            ];
+            0
+        }
+        Listed::Past => {
+            *row = [0; 7];
+            1
+        }
+        Listed::Refused(stage) => {
+            *row = [0; 7];
+            stage_number(stage)
+        }
+    }
+}
+
+// XXH64 with seed 0.
+#[no_mangle]
+pub extern "C" fn chronicle_map_xxh64(bytes: &[u8]) -> u64
+    ensures { λ r. ⌜ r ≡ Hash·xxh64 (now (bytes .entry)) ⌝ }
+{
+    xxh64::xxh64(bytes)
+}

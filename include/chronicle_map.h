@@ -1,0 +1,104 @@
+/*
+ * A proved library over a lent Chronicle Map memory image.
+ *
+ * A call is given a settings block (71 bytes, which say how the image is laid out), the image, and what the
+ * call is about: a key, a key and a record, or the number of an entry. It checks the block and the whole image
+ * itself before it does anything else. It allocates nothing and keeps nothing between calls.
+ *
+ * Link with target/staticlib/libchronicle_map_c.a (`make lib`; x86-64 Linux). What each function returns and
+ * every byte that it leaves is proved, for any bytes: the contracts are in crates/chronicle_map_c/src/lib.rt.
+ *
+ * What a caller owes
+ * ------------------
+ *   - Each pointer points to as many readable bytes as the length beside it says, `image` of a store or a
+ *     removal to as many writable ones, and an out array to room for its numbers, aligned as uint64_t is.
+ *   - No pointer is null. A length of 0 may come with any other pointer.
+ *   - The image of a store or a removal overlaps no other argument: a key or a record that stands in the image
+ *     is copied out before it is given. An out array overlaps no other argument either. What is only read
+ *     (`const`) may overlap what is only read.
+ *   - While a call runs, nobody else writes to what it was given, and nobody else reads what it may write.
+ *     Calls on different images may run at the same time, and so may calls that only read one image.
+ *
+ * Beyond that nothing is asked. The bytes may be any bytes, the lengths any lengths, and n any number: where
+ * they are wrong the call says so by its number.
+ */
+#ifndef CHRONICLE_MAP_H
+#define CHRONICLE_MAP_H
+
+#include <stddef.h>
+#include <stdint.h>
+
+#ifdef __cplusplus
+extern "C" {
+#endif
+
+/*
+ * The number that a call returns. The lowest of 2 to 9 that applies is given; only where none applies, 0, 1 or 10.
+ * With any number but 0 the out array is all zeros and the image is as it was before the call.
+ */
+enum {
+    CHRONICLE_MAP_DONE = 0,    /* done, or found */
+    CHRONICLE_MAP_ABSENT = 1,  /* no such key (lookup, remove), or no such entry (entry) */
+    CHRONICLE_MAP_BLOCK = 2,   /* the block's length, its length field or its version is wrong */
+    CHRONICLE_MAP_FIELD = 3,   /* a field of the block breaks its rule */
+    CHRONICLE_MAP_FRAME = 4,   /* the image's length, its offsets or its store size is wrong */
+    CHRONICLE_MAP_CHAINS = 5,  /* the chains of tiers are broken */
+    CHRONICLE_MAP_ENTRIES = 6, /* a slot or an entry is broken */
+    CHRONICLE_MAP_CHUNKS = 7,  /* the marks of chunks or the counters do not fit the entries */
+    CHRONICLE_MAP_KEY = 8,     /* the key is empty or longer than 1,024 bytes */
+    CHRONICLE_MAP_VALUE = 9,   /* the record is longer than 65,535 bytes, or takes more chunks than an entry may */
+    CHRONICLE_MAP_FULL = 10    /* no tier has room for the entry, and none is free */
+};
+
+/*
+ * Checks the block and the whole image. Returns 0 or one of 2 to 7.
+ * counts: live entries, marked chunks, chained tiers, free tiers.
+ */
+uint32_t chronicle_map_check(const uint8_t *block, size_t block_len,
+                             const uint8_t *image, size_t image_len,
+                             uint64_t counts[4]);
+
+/*
+ * Looks up the record under a key. Keys are compared whole. Returns 0, 1 or one of 2 to 8.
+ * place: the offset in the image at which the record starts, and its length in bytes. The record is
+ * image + place[0], within the image, and stays there until a store or a removal. An empty record is found
+ * with length 0; an absent key returns 1.
+ */
+uint32_t chronicle_map_lookup(const uint8_t *block, size_t block_len,
+                              const uint8_t *image, size_t image_len,
+                              const uint8_t *key, size_t key_len,
+                              uint64_t place[2]);
+
+/*
+ * Stores a record under a key. A record that is already there under the same key is replaced; every other
+ * key keeps its record. Returns 0 or one of 2 to 10.
+ */
+uint32_t chronicle_map_store(const uint8_t *block, size_t block_len,
+                             uint8_t *image, size_t image_len,
+                             const uint8_t *key, size_t key_len,
+                             const uint8_t *value, size_t value_len);
+
+/*
+ * Removes a key with its record; every other key keeps its record. Returns 0, 1 or one of 2 to 8.
+ */
+uint32_t chronicle_map_remove(const uint8_t *block, size_t block_len,
+                              uint8_t *image, size_t image_len,
+                              const uint8_t *key, size_t key_len);
+
+/*
+ * Gives the n-th live entry, n from 0, by segment, then by the order of the segment's tiers, then by slot.
+ * Returns 0, 1 where n is past the last entry, or one of 2 to 7. Each call checks the whole image anew.
+ * row: segment, tier, slot, first chunk, number of chunks, length of the key, length of the record.
+ */
+uint32_t chronicle_map_entry(const uint8_t *block, size_t block_len,
+                             const uint8_t *image, size_t image_len,
+                             uint64_t n, uint64_t row[7]);
+
+/* The XXH64 hash of some bytes, with seed 0: the hash by which keys are placed. */
+uint64_t chronicle_map_xxh64(const uint8_t *bytes, size_t len);
+
+#ifdef __cplusplus
+}
+#endif
+
+#endif

@@ -1,0 +1,127 @@
+//! Ratios of the library's times to a baseline's, measured in one run: both sides by turns, the best of many rounds.
+mod store;
+
+use std::hint::black_box;
+use std::time::Instant;
+use store::{store, Plan, Store};
+
+/// The best time of a round of each side, in seconds for one call.
+fn both(rounds: usize, calls: usize, mut ours: impl FnMut(usize), mut theirs: impl FnMut(usize)) -> (f64, f64) {
+    let (mut a, mut b) = (f64::MAX, f64::MAX);
+    for _ in 0..rounds {
+        let t = Instant::now();
+        (0..calls).for_each(&mut ours);
+        a = a.min(t.elapsed().as_secs_f64());
+        let t = Instant::now();
+        (0..calls).for_each(&mut theirs);
+        b = b.min(t.elapsed().as_secs_f64());
+    }
+    (a / calls as f64, b / calls as f64)
+}
+
+/// An answer that the compiler must not leave out.
+fn seen<T>(answer: T) {
+    black_box(answer);
+}
+
+fn row(name: &str, size: &str, (a, b): (f64, f64)) {
+    println!("| {name} | {size} | {:.3} | {:.3} | {:.2} |", a * 1e6, b * 1e6, a / b);
+}
+
+fn header(first: &str, baseline: &str) {
+    println!("\n| {first} | size | library, us | {baseline}, us | ratio |\n|-|-|-|-|-|");
+}
+
+#[cfg(feature = "xxhash")]
+fn hashes() {
+    extern "C" {
+        fn XXH64(input: *const u8, length: usize, seed: u64) -> u64;
+    }
+    header("hash", "libxxhash");
+    let bytes: Vec<u8> = (0..65_536u32).map(|i| (i * 7 + 3) as u8).collect();
+    for n in [2, 8, 16, 31, 32, 64, 256, 1_024, 8_192, 65_536] {
+        let calls = (4_000_000 / (n + 40)).max(20);
+        let part = &bytes[..n];
+        // SAFETY: `part` is n bytes that stay where they are.
+        let theirs = |_| seen(unsafe { XXH64(black_box(part).as_ptr(), n, 0) });
+        row("xxh64", &n.to_string(), both(40, calls, |_| seen(chronicle_map::xxh64(black_box(part))), theirs));
+    }
+}
+
+#[cfg(not(feature = "xxhash"))]
+fn hashes() {
+    println!("xxh64 against libxxhash: skipped (install libxxhash-dev and build with --features xxhash)");
+}
+
+fn reads(s: &Store, size: &str) {
+    let (b, m, k) = (&s.block, &s.image, &s.keys);
+    let calls = (8_000_000 / m.len()).clamp(1, 400);
+    let rounds = if m.len() > 1_000_000 { 9 } else { 25 };
+    let key = |i: usize| &k[i * 37 % k.len()];
+    row("check", size, both(rounds, calls, |_| seen(chronicle_map::check(b, m)), |_| seen(reference::check(b, m))));
+    row("lookup", size, both(rounds, calls, |i| seen(chronicle_map::lookup(b, m, key(i))), |i| seen(reference::lookup(b, m, key(i)))));
+    let n = k.len() as u64 / 2;
+    row("entry", size, both(rounds, calls, |_| seen(chronicle_map::entry(b, m, n)), |_| seen(reference::entry(b, m, n))));
+}
+
+/// Each side edits an image of its own: a key is removed and stored again.
+fn edits(s: &Store, size: &str) {
+    let (b, k) = (&s.block, &s.keys);
+    let (mut mine, mut other) = (s.image.clone(), s.image.clone());
+    let rounds = if mine.len() > 1_000_000 { 9 } else { (2_000_000 / mine.len()).clamp(25, 400) };
+    let (mut stores, mut removes) = ((f64::MAX, f64::MAX), (f64::MAX, f64::MAX));
+    for i in 0..rounds {
+        let key = &k[i * 37 % k.len()];
+        let once = |f: &mut dyn FnMut() -> u32| {
+            let t = Instant::now();
+            assert_eq!(f(), 0);
+            t.elapsed().as_secs_f64()
+        };
+        let ok = |r: Result<(), chronicle_map::Refusal>| r.map_or_else(|e| e.number(), |()| 0);
+        removes.0 = removes.0.min(once(&mut || chronicle_map::remove(b, &mut mine, key).map_or_else(|e| e.number(), |there| !there as u32)));
+        removes.1 = removes.1.min(once(&mut || reference::remove(b, &mut other, key)));
+        stores.0 = stores.0.min(once(&mut || ok(chronicle_map::store(b, &mut mine, key, &[1, 2, 3, 4]))));
+        stores.1 = stores.1.min(once(&mut || reference::store(b, &mut other, key, &[1, 2, 3, 4])));
+        assert!(mine == other);
+    }
+    row("store", size, stores);
+    row("remove", size, removes);
+}
+
+fn plans() -> [(&'static str, Plan); 5] {
+    let plan = |segments, slots, chunks, chunk_size, entries| Plan { segments, slots, chunks, chunk_size, entries };
+    [
+        ("1 KiB", plan(1, 16, 16, 16, 8)),
+        ("16 KiB", plan(1, 512, 512, 16, 300)),
+        ("256 KiB", plan(4, 2_048, 2_048, 16, 1_400)),
+        ("3 MiB", plan(32, 4_096, 4_096, 16, 2_800)),
+        ("16 MiB", plan(128, 4_096, 4_096, 26, 1_600)),
+    ]
+}
+
+/// The check's time for each entry, as the store grows with its shape the same.
+fn growth() {
+    println!("\n| entries | bytes | check, ns for each entry | of that at 1,000 |\n|-|-|-|-|");
+    let mut first = 0.0;
+    for segments in [1, 8, 64, 256] {
+        let s = store(Plan { segments, slots: 2_048, chunks: 1_024, chunk_size: 16, entries: 1_000.min(200_000 / segments) });
+        let (a, _) = both(if segments > 16 { 15 } else { 60 }, 1, |_| seen(chronicle_map::check(&s.block, &s.image)), |_| ());
+        let each = a * 1e9 / s.keys.len() as f64;
+        if segments == 1 {
+            first = each;
+        }
+        println!("| {} | {} | {each:.1} | {:.2} |", s.keys.len(), s.image.len(), each / first);
+    }
+}
+
+fn main() {
+    hashes();
+    header("call", "reference");
+    for (size, plan) in plans() {
+        let s = store(plan);
+        assert!(chronicle_map::check(&s.block, &s.image).is_ok());
+        reads(&s, size);
+        edits(&s, size);
+    }
+    growth();
+}

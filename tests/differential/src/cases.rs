@@ -1,0 +1,267 @@
+//! One case: an image of one kind, and calls on it.
+
+use crate::blocks;
+use crate::compare::{self, Outcome, Pair, Tally};
+use crate::damage::{DAMAGES, Scene, Verdict};
+use crate::defects::DEFECTS;
+use crate::draw;
+use crate::history::History;
+use crate::model::Model;
+use crate::plan::Plan;
+use crate::rng::Rng;
+use crate::settings::Size;
+
+pub fn run(rng: &mut Rng, tally: &mut Tally) -> Outcome<()> {
+    hashes(rng, tally)?;
+    match rng.below(1000) {
+        0..330 => history(rng, tally),
+        330..800 => damaged(rng, tally),
+        800..900 => bad_block(rng, tally),
+        900..970 => flipped(rng, tally),
+        970..995 => raw(rng, tally),
+        995..998 => most_tiers(rng, tally),
+        _ => longest_image(rng, tally),
+    }
+}
+
+fn hashes(rng: &mut Rng, tally: &mut Tally) -> Outcome<()> {
+    let most = if rng.percent(2) { 5000 } else { 80 };
+    let length = rng.below(most);
+    compare::xxh64(&rng.bytes(length), tally)
+}
+
+/// Plan, keys and a model of random contents.
+fn scene(rng: &mut Rng) -> (Plan, Vec<Vec<u8>>, Model) {
+    let size = Size::random(rng);
+    let plan = Plan::random(rng, size);
+    scene_of(rng, plan)
+}
+
+fn scene_of(rng: &mut Rng, plan: Plan) -> (Plan, Vec<Vec<u8>>, Model) {
+    let count = match rng.below(10) {
+        0..6 => rng.between(2, 12),
+        6..9 => rng.between(8, 40),
+        _ => rng.between(30, 200),
+    };
+    let keys = draw::keys(rng, &plan, count);
+    let model = Model::random(rng, &plan, &keys);
+    (plan, keys, model)
+}
+
+fn history(rng: &mut Rng, tally: &mut Tally) -> Outcome<()> {
+    let (plan, keys, model) = scene(rng);
+    let image = model.image(rng);
+    history_on(rng, tally, &plan, &keys, model, image)
+}
+
+fn history_on(
+    rng: &mut Rng,
+    tally: &mut Tally,
+    plan: &Plan,
+    keys: &[Vec<u8>],
+    model: Model,
+    image: Vec<u8>,
+) -> Outcome<()> {
+    let steps = (1_500_000 / image.len()).clamp(8, 160);
+    let pair = Pair::new(plan.block(), image, tally);
+    History {
+        rng,
+        plan,
+        keys,
+        records: model.records,
+        pair,
+    }
+    .run(steps)
+}
+
+/// One to three faults, of which the lowest number is told where it is sure.
+fn damaged(rng: &mut Rng, tally: &mut Tally) -> Outcome<()> {
+    let (plan, keys, mut model) = scene(rng);
+    let mut faults: Vec<(&'static str, Verdict)> = Vec::new();
+    if rng.percent(45) {
+        faults.extend(defect(rng, &mut model));
+    }
+    let mut image = model.image(rng);
+    let more = if faults.is_empty() || rng.percent(25) {
+        rng.between(1, 2)
+    } else {
+        0
+    };
+    for _ in 0..more {
+        let (name, damage) = *rng.pick(&DAMAGES);
+        let scene = &mut Scene {
+            rng,
+            model: &model,
+            image: &mut image,
+        };
+        if scene.image.len() < plan.store_size() {
+            break;
+        }
+        faults.extend(damage(scene).map(|verdict| (name, verdict)));
+    }
+    let verdict = lowest(&faults);
+    for (name, _) in &faults {
+        *tally.faults.entry(name).or_default() += 1;
+    }
+    let mut pair = Pair::new(plan.block(), image, tally);
+    let result = all_calls(rng, &plan, &keys, &mut pair, verdict);
+    result.map_err(|difference| format!("{difference} (faults: {faults:?})"))
+}
+
+fn defect(rng: &mut Rng, model: &mut Model) -> Option<(&'static str, Verdict)> {
+    for _ in 0..4 {
+        let (name, defect) = *rng.pick(&DEFECTS);
+        let untouched = (
+            model.chains.clone(),
+            model.free.clone(),
+            model.tiers.clone(),
+        );
+        if let Some(number) = defect(rng, model) {
+            return Some((name, Verdict::Is(number)));
+        }
+        (model.chains, model.free, model.tiers) = untouched;
+    }
+    None
+}
+
+/// Faults of different numbers stand in different fields, so that the lowest
+/// decides; two of one number might undo each other.
+fn lowest(faults: &[(&str, Verdict)]) -> Verdict {
+    let mut lowest = 0;
+    for &(_, verdict) in faults {
+        match verdict {
+            Verdict::Is(0) => {}
+            Verdict::Is(number) if number == lowest => return Verdict::Unknown,
+            Verdict::Is(number) if lowest == 0 || number < lowest => lowest = number,
+            Verdict::Is(_) => {}
+            Verdict::Unknown => return Verdict::Unknown,
+        }
+    }
+    Verdict::Is(lowest)
+}
+
+/// Every call with good and bad keys and values, on any image.
+fn all_calls(
+    rng: &mut Rng,
+    plan: &Plan,
+    keys: &[Vec<u8>],
+    pair: &mut Pair,
+    verdict: Verdict,
+) -> Outcome<()> {
+    let (number, _) = pair.check()?;
+    if let Verdict::Is(expected) = verdict
+        && number != expected
+    {
+        return Err(format!("check: both answer {number}, meant was {expected}"));
+    }
+    for _ in 0..2 {
+        pair.lookup(&draw::offered_key(rng, plan, keys))?;
+        let key = draw::offered_key(rng, plan, keys);
+        let value = draw::offered_value(rng, plan, key.len());
+        pair.store(&key, &value)?;
+        pair.remove(&draw::offered_key(rng, plan, keys))?;
+        pair.entry(rng.below(4) as u64)?;
+    }
+    let long = rng.bytes(1025);
+    pair.lookup(&long)?;
+    pair.remove(&[])?;
+    if rng.percent(5) {
+        pair.store(&long, &vec![0; 65_536])?;
+        pair.store(&[1], &vec![0; 65_536])?;
+    }
+    Ok(())
+}
+
+fn bad_block(rng: &mut Rng, tally: &mut Tally) -> Outcome<()> {
+    let (plan, keys, model) = scene(rng);
+    let mut image = model.image(rng);
+    if rng.percent(20) {
+        image.truncate(rng.below(100));
+    }
+    let (block, verdict) = match rng.below(10) {
+        0..2 => (blocks::misshapen(rng, &plan), Verdict::Is(2)),
+        2..8 => (blocks::with_bad_field(rng, &plan), Verdict::Is(3)),
+        _ => (blocks::altered(rng, &plan), Verdict::Unknown),
+    };
+    let told = format!("{block:?}");
+    let mut pair = Pair::new(block, image, tally);
+    let result = all_calls(rng, &plan, &keys, &mut pair, verdict);
+    result.map_err(|difference| format!("{difference} (block: {told})"))
+}
+
+/// Random bits anywhere, more often in the fields than in the chunks.
+fn flipped(rng: &mut Rng, tally: &mut Tally) -> Outcome<()> {
+    let (plan, keys, model) = scene(rng);
+    let mut image = model.image(rng);
+    for _ in 0..rng.between(1, 6) {
+        let tier = rng.between(1, plan.tiers());
+        let (start, end) = match rng.below(5) {
+            0 => (0, image.len()),
+            1 => (plan.global_state, plan.global_state + 33),
+            2 => (plan.headers, plan.header(plan.segments)),
+            3 => (plan.tier(tier), plan.slot(tier, plan.slots)),
+            _ => (plan.counters(tier), plan.chunk(tier, 1)),
+        };
+        image[rng.between(start, end - 1)] ^= 1 << rng.below(8);
+    }
+    let mut pair = Pair::new(plan.block(), image, tally);
+    all_calls(rng, &plan, &keys, &mut pair, Verdict::Unknown)
+}
+
+/// Short random images, and random blocks.
+fn raw(rng: &mut Rng, tally: &mut Tally) -> Outcome<()> {
+    let plan = Plan::random(rng, Size::Tiny);
+    let block = match rng.below(4) {
+        0 => {
+            let length = rng.below(90);
+            rng.bytes(length)
+        }
+        1 => [vec![0, 69, 1], rng.bytes(68)].concat(),
+        _ => plan.block(),
+    };
+    let length = rng.below(200);
+    let image = rng.bytes(length);
+    let keys = draw::keys(rng, &plan, 4);
+    let mut pair = Pair::new(block, image, tally);
+    all_calls(rng, &plan, &keys, &mut pair, Verdict::Unknown)
+}
+
+/// 1,024 tiers, which is the most, or a bulk more.
+fn most_tiers(rng: &mut Rng, tally: &mut Tally) -> Outcome<()> {
+    let mut plan = Plan::random(rng, Size::Tiny);
+    plan.segments = 1 << rng.between(0, 8);
+    plan.bulk_tiers = 1 << rng.between(0, 6.min(plan.segments.ilog2() as usize));
+    plan.bulk_size = plan.bulk_offset + plan.bulk_tiers * plan.tier_size;
+    plan.bulks = (1024 - plan.segments) / plan.bulk_tiers;
+    if plan.store_size() > 1 << 20 {
+        return Ok(());
+    }
+    if rng.percent(50) {
+        let (plan, keys, model) = scene_of(rng, plan);
+        let image = model.image(rng);
+        return history_on(rng, tally, &plan, &keys, model, image);
+    }
+    plan.bulks += 1;
+    let (plan, keys, model) = scene_of(rng, plan);
+    let image = model.image(rng);
+    let mut pair = Pair::new(plan.block(), image, tally);
+    all_calls(rng, &plan, &keys, &mut pair, Verdict::Is(4))
+}
+
+/// An image of the greatest length, or a byte more.
+fn longest_image(rng: &mut Rng, tally: &mut Tally) -> Outcome<()> {
+    let plan = Plan::random(rng, Size::Tiny);
+    let (plan, _, model) = scene_of(rng, plan);
+    let mut image = model.image(rng);
+    let too_long = rng.percent(50);
+    image.resize((1 << 24) + usize::from(too_long), 0xEE);
+    let mut pair = Pair::new(plan.block(), image, tally);
+    let (number, _) = pair.check()?;
+    let expected = if too_long { 4 } else { 0 };
+    match number == expected {
+        true => pair.store(&[1], &[2]).map(|_| ()),
+        false => Err(format!(
+            "check of a long image: {number}, meant was {expected}"
+        )),
+    }
+}

@@ -1,0 +1,204 @@
+//! One call to both implementations at a time, on two copies of an image,
+//! with every number and every byte compared afterwards.
+
+use std::collections::BTreeMap;
+
+use crate::damage::DAMAGES;
+use crate::defects::DEFECTS;
+use crate::subject;
+
+/// A difference, told in words.
+pub type Outcome<T> = Result<T, String>;
+
+pub const CALLS: [&str; 5] = ["check", "lookup", "store", "remove", "entry"];
+const NUMBERS: usize = 11;
+
+/// How often each number was answered, by call.
+#[derive(Default)]
+pub struct Tally {
+    pub counts: [[u64; NUMBERS]; 5],
+    pub hashes: u64,
+    /// How often each planned fault was made.
+    pub faults: BTreeMap<&'static str, u64>,
+}
+
+impl Tally {
+    fn note(&mut self, call: usize, number: u32) -> Outcome<()> {
+        let Some(count) = self.counts[call].get_mut(number as usize) else {
+            return Err(format!(
+                "{}: number {number} is none of 0 to 10",
+                CALLS[call]
+            ));
+        };
+        *count += 1;
+        Ok(())
+    }
+
+    /// A number that no call has answered, or a planned fault never made.
+    pub fn missing(&self) -> Option<String> {
+        let absent = |number: &usize| self.counts.iter().all(|counts| counts[*number] == 0);
+        let number = (0..NUMBERS).find(absent);
+        let damages = DAMAGES.iter().map(|(name, _)| name);
+        let mut faults = damages.chain(DEFECTS.iter().map(|(name, _)| name));
+        let fault = faults.find(|name| !self.faults.contains_key(*name));
+        let fault = fault.map(|name| name.to_string());
+        number.map(|number| format!("number {number}")).or(fault)
+    }
+
+    pub fn print(&self) {
+        let titles: String = CALLS.iter().map(|call| format!("{call:>10}")).collect();
+        println!("number{titles}");
+        for number in 0..NUMBERS {
+            let line: String = self
+                .counts
+                .iter()
+                .map(|counts| format!("{:>10}", counts[number]))
+                .collect();
+            println!("{number:>6}{line}");
+        }
+        println!("hashes {}", self.hashes);
+        for (fault, count) in &self.faults {
+            println!("{count:>6} times {fault}");
+        }
+    }
+}
+
+/// Bytes around the subject's image that it must leave alone.
+const GUARD: usize = 64;
+const GUARD_BYTE: u8 = 0x5C;
+
+pub struct Pair<'a> {
+    block: Vec<u8>,
+    ours: Vec<u8>,
+    theirs: Vec<u8>,
+    before: Vec<u8>,
+    tally: &'a mut Tally,
+}
+
+impl<'a> Pair<'a> {
+    pub fn new(block: Vec<u8>, image: Vec<u8>, tally: &'a mut Tally) -> Pair<'a> {
+        let mut theirs = vec![GUARD_BYTE; image.len() + 2 * GUARD];
+        theirs[GUARD..GUARD + image.len()].copy_from_slice(&image);
+        Pair {
+            block,
+            ours: image,
+            theirs,
+            before: Vec::new(),
+            tally,
+        }
+    }
+
+    pub fn image(&self) -> &[u8] {
+        &self.ours
+    }
+
+    fn their_image(&self) -> &[u8] {
+        &self.theirs[GUARD..self.theirs.len() - GUARD]
+    }
+
+    pub fn check(&mut self) -> Outcome<(u32, [u64; 4])> {
+        let ours = reference::check(&self.block, &self.ours);
+        let theirs = subject::check(&self.block, self.their_image());
+        same("check", ours, theirs)?;
+        self.settle(0, ours.0)?;
+        Ok(ours)
+    }
+
+    pub fn lookup(&mut self, key: &[u8]) -> Outcome<(u32, [u64; 2])> {
+        let ours = reference::lookup(&self.block, &self.ours, key);
+        let theirs = subject::lookup(&self.block, self.their_image(), key);
+        same(&format!("lookup of {}", short(key)), ours, theirs)?;
+        self.settle(1, ours.0)?;
+        Ok(ours)
+    }
+
+    pub fn entry(&mut self, n: u64) -> Outcome<(u32, [u64; 7])> {
+        let ours = reference::entry(&self.block, &self.ours, n);
+        let theirs = subject::entry(&self.block, self.their_image(), n);
+        same(&format!("entry {n}"), ours, theirs)?;
+        self.settle(4, ours.0)?;
+        Ok(ours)
+    }
+
+    pub fn store(&mut self, key: &[u8], value: &[u8]) -> Outcome<u32> {
+        self.remember();
+        let ours = reference::store(&self.block, &mut self.ours, key, value);
+        let end = self.theirs.len() - GUARD;
+        let theirs = subject::store(&self.block, &mut self.theirs[GUARD..end], key, value);
+        let what = format!("store of {} bytes under {}", value.len(), short(key));
+        self.settle_edit(2, &what, ours, theirs)
+    }
+
+    pub fn remove(&mut self, key: &[u8]) -> Outcome<u32> {
+        self.remember();
+        let ours = reference::remove(&self.block, &mut self.ours, key);
+        let end = self.theirs.len() - GUARD;
+        let theirs = subject::remove(&self.block, &mut self.theirs[GUARD..end], key);
+        self.settle_edit(3, &format!("removal of {}", short(key)), ours, theirs)
+    }
+
+    fn remember(&mut self) {
+        self.before.clone_from(&self.ours);
+    }
+
+    fn settle_edit(&mut self, call: usize, what: &str, ours: u32, theirs: u32) -> Outcome<u32> {
+        same(what, ours, theirs)?;
+        if ours != 0 && self.ours != self.before {
+            return Err(format!("{what}: answers {ours} and has changed the image"));
+        }
+        self.settle(call, ours)
+            .map_err(|difference| format!("{what}: {difference}"))?;
+        Ok(ours)
+    }
+
+    /// What holds after every call: the same bytes on both sides, and the
+    /// guards as they were.
+    fn settle(&mut self, call: usize, number: u32) -> Outcome<()> {
+        self.tally.note(call, number)?;
+        let theirs = self.their_image();
+        if self.ours != theirs {
+            let at = self
+                .ours
+                .iter()
+                .zip(theirs)
+                .position(|(a, b)| a != b)
+                .unwrap_or(0);
+            let (our, their) = (self.ours[at], theirs[at]);
+            let call = CALLS[call];
+            return Err(format!(
+                "{call}: byte {at} is {our} by reference, {their} by subject"
+            ));
+        }
+        let (front, rest) = self.theirs.split_at(GUARD);
+        let back = &rest[rest.len() - GUARD..];
+        if front.iter().chain(back).any(|&byte| byte != GUARD_BYTE) {
+            return Err(format!(
+                "{}: bytes around the image are changed",
+                CALLS[call]
+            ));
+        }
+        Ok(())
+    }
+}
+
+pub fn xxh64(bytes: &[u8], tally: &mut Tally) -> Outcome<()> {
+    tally.hashes += 1;
+    let what = format!("xxh64 of {} bytes", bytes.len());
+    same(&what, reference::xxh64(bytes), subject::xxh64(bytes))
+}
+
+fn same<T: PartialEq + std::fmt::Debug>(what: &str, ours: T, theirs: T) -> Outcome<()> {
+    if ours != theirs {
+        return Err(format!(
+            "{what}: {ours:?} by reference, {theirs:?} by subject"
+        ));
+    }
+    Ok(())
+}
+
+fn short(key: &[u8]) -> String {
+    match key.len() {
+        0..=16 => format!("key {key:02X?}"),
+        length => format!("a key of {length} bytes, first {:02X?}", &key[..8]),
+    }
+}

@@ -1,0 +1,61 @@
+//! Where a store must put its entry, found the slow way: every slot, every
+//! bit, one after the other. It does not share a line with the reference.
+
+use crate::model::length_bytes;
+use crate::plan::Plan;
+use crate::render::get;
+
+pub struct Oracle<'a> {
+    pub plan: &'a Plan,
+    pub image: &'a [u8],
+}
+
+impl Oracle<'_> {
+    /// Tier and first chunk of a new entry, with the old one of its key
+    /// (which covers `old_chunks`) taken out. None: nothing has room.
+    pub fn place(&self, key: &[u8], chunks: usize, old_chunks: usize) -> Option<(usize, usize)> {
+        let mut tier = self.plan.parts(key).0 + 1;
+        while tier != 0 {
+            if let Some(first_chunk) = self.room(tier, key, chunks, old_chunks) {
+                return Some((tier, first_chunk));
+            }
+            let (at, width) = self.plan.next_field(tier);
+            tier = get(self.image, at, width) as usize;
+        }
+        match get(self.image, self.plan.global_state + 11, 5) {
+            0 => None,
+            free => Some((free as usize, 0)),
+        }
+    }
+
+    fn room(&self, tier: usize, key: &[u8], chunks: usize, old_chunks: usize) -> Option<usize> {
+        let plan = self.plan;
+        let mut full = 0;
+        let mut marks: Vec<bool> = (0..plan.chunks)
+            .map(|chunk| self.mark(tier, chunk))
+            .collect();
+        for slot in 0..plan.slots {
+            let slot = get(self.image, plan.slot(tier, slot), plan.slot_size);
+            let first_chunk = (slot >> plan.key_bits) as usize;
+            if slot != 0 && self.has_key(tier, first_chunk, key) {
+                marks[first_chunk..first_chunk + old_chunks].fill(false);
+            } else if slot != 0 {
+                full += 1;
+            }
+        }
+        if full + 2 > plan.slots {
+            return None;
+        }
+        marks.windows(chunks).position(|run| !run.contains(&true))
+    }
+
+    fn mark(&self, tier: usize, chunk: usize) -> bool {
+        self.image[self.plan.list(tier) + chunk / 8] & (1 << (chunk % 8)) != 0
+    }
+
+    fn has_key(&self, tier: usize, chunk: usize, key: &[u8]) -> bool {
+        let entry = &self.image[self.plan.chunk(tier, chunk)..];
+        let length = length_bytes(key.len());
+        entry.starts_with(&length) && entry[length.len()..].starts_with(key)
+    }
+}

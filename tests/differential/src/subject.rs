@@ -1,0 +1,32 @@
+//! The implementation under test, with the same calls as the reference.
+
+#[cfg(feature = "self-test")]
+pub use reference::{check, entry, lookup, remove, store, xxh64};
+
+#[cfg(not(feature = "self-test"))]
+pub use library::{check, entry, lookup, remove, store, xxh64};
+
+#[cfg(not(feature = "self-test"))]
+mod library {
+    use crate::ffi;
+    pub use crate::ffi::{remove, store, xxh64};
+
+    /// Stands in every number before a call: one that the library forgets
+    /// to write shows.
+    const UNWRITTEN: u64 = 0xA5A5_A5A5_A5A5_A5A5;
+
+    pub fn check(block: &[u8], image: &[u8]) -> (u32, [u64; 4]) {
+        let mut counts = [UNWRITTEN; 4];
+        (ffi::check(block, image, &mut counts), counts)
+    }
+
+    pub fn lookup(block: &[u8], image: &[u8], key: &[u8]) -> (u32, [u64; 2]) {
+        let mut place = [UNWRITTEN; 2];
+        (ffi::lookup(block, image, key, &mut place), place)
+    }
+
+    pub fn entry(block: &[u8], image: &[u8], n: u64) -> (u32, [u64; 7]) {
+        let mut row = [UNWRITTEN; 7];
+        (ffi::entry(block, image, n, &mut row), row)
+    }
+}

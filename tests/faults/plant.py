@@ -1,0 +1,182 @@
+#!/usr/bin/env python3
+"""Plants one fault at a time in a copy of the reference, runs the driver with
+that copy as its subject, and writes what found it to docs/TESTING.md."""
+import os, re, shutil, subprocess, sys
+
+HERE = os.path.dirname(os.path.abspath(__file__))
+ROOT = os.path.dirname(HERE)
+REPOSITORY = os.path.dirname(ROOT)
+WORK = os.path.join(REPOSITORY, "target", "faults")
+PAGE = os.path.join(REPOSITORY, "docs", "TESTING.md")
+SEED, COUNT = "1", "60000"
+
+FAULTS = [
+ ("search compares lookup keys and never the stored key", "search.rs",
+  "if self.lookup_key(slot) == lookup_key\n                && self.has_key(image, tier, self.first_chunk(slot), key)\n", "if self.lookup_key(slot) == lookup_key\n"),
+ ("a lookup (not the check) takes the first slot with the lookup key", "search.rs",
+  "            let (place, slot) =\n                settings.find(image, &tier, parts.lookup_key, key, settings.slots)?;",
+  "            let _ = key;\n            let mut place = settings.start_slot(parts.lookup_key);\n            let slot = loop {\n                let slot = settings.slot_at(image, &tier, place);\n                if slot == 0 { return None; }\n                if settings.lookup_key(slot) == parts.lookup_key { break slot; }\n                place = settings.next_slot(place);\n            };"),
+ ("removal empties the slot and moves no later one", "edit.rs",
+  "            let value = settings.slot_at(image, tier, place);\n            if value == 0 {", "            let value = 0;\n            if value == 0 {"),
+ ("removal leaves a slot whose start is the hole", "edit.rs",
+  ">= settings.slot_distance(hole, place)", "> settings.slot_distance(hole, place)"),
+ ("removal stops at the first slot that stays", "edit.rs",
+  "                hole = place;\n            }", "                hole = place;\n            } else {\n                break;\n            }"),
+ ("removal does not lower the lowest free chunk", "edit.rs",
+  "        let entries = tier.entry_count(image) - 1;\n        self.set_counters(image, tier, entries);", "        let entries = tier.entry_count(image) - 1;\n        tier.set_entry_count(image, entries);"),
+ ("a store does not raise the lowest free chunk", "edit.rs",
+  "        let entries = tier.entry_count(image) + 1;\n        self.set_counters(image, tier, entries);", "        let entries = tier.entry_count(image) + 1;\n        tier.set_entry_count(image, entries);\n        if tier.lowest_free(image) > settings.chunks as u64 { tier.set_lowest_free(image, count); }"),
+ ("previous of a taken tier is always the main tier", "edit.rs",
+  "tier.set_standing(image, last.index, segment, chain.len());", "tier.set_standing(image, segment + 1, segment, chain.len());"),
+ ("previous of a taken tier is the segment number", "edit.rs",
+  "tier.set_standing(image, last.index, segment, chain.len());", "tier.set_standing(image, if chain.len() == 1 { segment } else { last.index }, segment, chain.len());"),
+ ("order of a taken tier is always 1", "edit.rs",
+  "tier.set_standing(image, last.index, segment, chain.len());", "tier.set_standing(image, last.index, segment, 1);"),
+ ("a main tier's entry count is read from its own counters", "tier.rs",
+  "        u32_at(image, self.entry_count_at())", "        u32_at(image, self.counters + ENTRY_COUNT)"),
+ ("a main tier's entry count is written to its counters too", "tier.rs",
+  "        put_uint(image, self.entry_count_at(), 4, u64::from(count));", "        put_uint(image, self.entry_count_at(), 4, u64::from(count));\n        put_uint(image, self.counters + ENTRY_COUNT, 4, u64::from(count));"),
+ ("a main tier's next is written to its own counters", "tier.rs",
+  "        put_uint(image, self.next_at(), 8, index);", "        put_uint(image, self.counters + NEXT, 8, index);"),
+ ("a hash part of 0 is taken as 0", "slot.rs",
+  "lookup_key: if part == 0 { ones } else { part },", "lookup_key: { let _ = ones; part },"),
+ ("a hash part of 0 becomes 1", "slot.rs",
+  "lookup_key: if part == 0 { ones } else { part },", "lookup_key: if part == 0 { 1 } else { part },"),
+ ("the lookup key is taken from the hash's low bits", "slot.rs",
+  "(hash >> self.segments.trailing_zeros()) & ones", "hash & ones"),
+ ("a run reaches over N where the last byte has room", "bits.rs",
+  "        while first + count <= self.size {\n            let end = self.next_set(first);", "        while first + count <= self.size.next_multiple_of(8) {\n            let mut end = self.next_set(first);\n            if end == self.size { end = end.next_multiple_of(8); }"),
+ ("bits from N on are read", "bits.rs",
+  "if !settings.chunks.is_multiple_of(64) {", "if settings.chunks > 5000 {"),
+ ("the old entry goes before it is known that the new one fits", "edit.rs",
+  "        .room(image, parts.segment, needed, old)\n        .ok_or(number::FULL)?;\n",
+  "        .room(image, parts.segment, needed, old);\n    if let (Some(old), None) = (old, &room) {\n        map.take_out(image, old);\n    }\n    let room = room.ok_or(number::FULL)?;\n"),
+ ("full slots are counted with the old entry", "edit.rs", "                full_slots -= 1;\n", "                full_slots -= 0;\n"),
+ ("the run is sought with the old entry's chunks marked", "edit.rs",
+  "                marked.drop(old.first_chunk, old.chunks);\n", "                let _ = &mut marked;\n"),
+ ("C - 1 full slots still take an entry", "edit.rs", "settings.slots - 2", "settings.slots - 1"),
+ ("C - 1 full slots are refused by the check", "check.rs",
+  "        let mut covered = BitSet::empty(settings.chunks);\n", "        if full.count() as usize == settings.slots - 1 { return None; }\n        let mut covered = BitSet::empty(settings.chunks);\n"),
+ ("the used count stays", "edit.rs", "let used = self.frame.used(image) + 1;", "let used = self.frame.used(image);"),
+ ("a taken tier's entry count goes on from its old junk", "edit.rs",
+  "        tier.set_entry_count(image, 0);\n", ""),
+ ("the taken tier's next is read after it was zeroed", "edit.rs",
+  "        let next_free = tier.next(image);\n", "        tier.set_next(image, 0);\n        let next_free = tier.next(image);\n"),
+ ("a length not in the shortest form is read", "leb128.rs", "(byte != 0).then_some", "true.then_some"),
+ ("the entry count is not checked", "check.rs",
+  "            && tier.entry_count(self.image) == contents.full_slots\n", ""),
+ ("the lowest free chunk of counters is read in 4 bytes", "tier.rs",
+  "None => u64_at(image, self.counters + LOWEST_FREE),", "None => u64::from(u32_at(image, self.counters + LOWEST_FREE)),"),
+ ("chains are counted, not marked", "chains.rs",
+  "        (!std::mem::replace(&mut self.seen[index], true)).then_some(index)", "        let met = self.seen.iter().filter(|seen| **seen).count();\n        if let Some(unmet) = self.seen.iter_mut().find(|seen| !**seen) { *unmet = true; }\n        (met < self.frame.tiers).then_some(index)"),
+ ("a main tier's previous, segment and order are not read", "chains.rs",
+  "if !tier.stands_at(self.image, previous, segment, order) {", "if order > 0 && !tier.stands_at(self.image, previous, segment, order) {"),
+ ("a chunk fault in one tier comes before a slot fault in a later one", "check.rs",
+  "                entries += u64::from(contents.full_slots);\n", "                if !chunks_hold { return Err(number::CHUNKS); }\n                entries += u64::from(contents.full_slots);\n"),
+ ("a key is unique in its tier only", "check.rs",
+  "                .all(|tier| find(tier, settings.slots).is_none());", "                .all(|tier| find(tier, settings.slots).is_none() || place < settings.slots);"),
+ ("bits above the chunk index are ignored", "slot.rs",
+  "        slot >> self.key_bits\n", "        (slot >> self.key_bits) & (self.chunks.next_power_of_two() as u64 - 1)\n"),
+ ("a slot behind an empty one is accepted", "check.rs",
+  "            && settings.slot_distance(start, place) <= settings.slot_distance(run_start, place);", "            && (start != run_start || start == run_start);"),
+ ("a free tier's chunk bits are not read", "check.rs",
+  " && BitSet::marked(settings, self.image, &tier).count() == 0\n", "\n"),
+ ("overlapping entries are accepted", "check.rs", "        contents.apart\n            && contents.covered", "        (contents.apart || true)\n            && contents.covered"),
+ ("the rest of the last chunk is zeroed", "edit.rs",
+  "    write_entry(&mut image[start..], key, value);", "    image[start..start + needed * settings.chunk_size].fill(0);\n    write_entry(&mut image[start..], key, value);"),
+ ("the list goes by tier index", "search.rs",
+  "        for tier in map.chain(segment) {", "        let mut tiers: Vec<Tier> = map.chain(segment).collect();\n        tiers.sort_by_key(|tier| tier.index);\n        for tier in tiers {"),
+ ("a lookup ends with the main tier", "search.rs",
+  "        let mut tiers = self.chain(parts.segment);", "        let mut tiers = self.chain(parts.segment).take(1);"),
+ ("a bulk ends with its last tier", "frame.rs",
+  "store_size == bulks + bulk_count * settings.bulk_size as u64", "store_size == bulks + bulk_count * (settings.bulk_offset + settings.bulk_tiers * settings.tier_size) as u64"),
+ ("H may stand on the global state", "frame.rs",
+  "headers >= (state + STATE_SIZE) as u64", "headers >= state as u64"),
+ ("1,025 tiers and more are accepted", "frame.rs", "tiers <= MOST_TIERS", "tiers <= 64 * MOST_TIERS"),
+ ("a lookup answers 9 for a key too long for field 17", "search.rs",
+  "    check_key(key)?;\n    let parts = map.frame.settings.hash_parts(key);\n    let entry", "    check_key(key)?;\n    map.frame.settings.chunks_needed(key, &[])?;\n    let parts = map.frame.settings.hash_parts(key);\n    let entry"),
+ ("an empty record is answered at offset 0", "search.rs",
+  "    Ok([entry.value_at as u64, entry.value_length as u64])", "    if entry.value_length == 0 { return Ok([0, 0]); }\n    Ok([entry.value_at as u64, entry.value_length as u64])"),
+ ("a replacement of as many chunks stays in place", "edit.rs",
+  "    if let Some(old) = old {\n        map.take_out(image, old);\n    }\n", "    if let Some(old) = old.filter(|old| old.chunks == needed) {\n        let start = old.tier.space + old.first_chunk * settings.chunk_size;\n        write_entry(&mut image[start..], key, value);\n        return Ok(());\n    }\n    if let Some(old) = old {\n        map.take_out(image, old);\n    }\n"),
+ ("the entry is placed in the highest run", "bits.rs",
+  "                return Some(first);\n", "                let mut last = first;\n                for other in first..=self.size - count {\n                    if self.next_set(other) - other >= count && self.next_clear(other) == other { last = other; }\n                }\n                return Some(last);\n"),
+ ("no field has a limit of 16,777,216", "settings.rs", "field <= MOST_OF_ANY_FIELD)", "u64::from(field) <= 256 * u64::from(MOST_OF_ANY_FIELD))"),
+ ("8 comes before the image's number", "edit.rs",
+  "    let map = accept(block, image)?;\n    check_key(key)?;\n    let settings", "    check_key(key)?;\n    let map = accept(block, image)?;\n    let settings"),
+ ("XXH64 takes the short way at exactly 32 bytes", "hash.rs",
+  "let start = if stripes.is_empty() {", "let start = if stripes.is_empty() || bytes.len() == 32 {"),
+]
+
+def prepare():
+    os.makedirs(WORK, exist_ok=True)
+    for name in ("faulty", "differential"):
+        shutil.rmtree(os.path.join(WORK, name, "src"), ignore_errors=True)
+    for source, name in (("reference", "faulty"), ("differential", "differential")):
+        target = os.path.join(WORK, name)
+        os.makedirs(target, exist_ok=True)
+        shutil.copytree(os.path.join(ROOT, source, "src"), os.path.join(target, "src"))
+        shutil.copy(os.path.join(ROOT, source, "Cargo.toml"), target)
+    shutil.copy(os.path.join(ROOT, "differential", "build.rs"), os.path.join(WORK, "differential"))
+    edit("faulty/Cargo.toml", 'name = "reference"', 'name = "faulty"')
+    edit("differential/Cargo.toml", 'path = "../reference" }', 'path = "%s/reference" }\nfaulty = { path = "../faulty" }' % ROOT)
+    edit("differential/src/subject.rs", "pub use reference::", "pub use faulty::")
+
+def edit(name, old, new):
+    path = os.path.join(WORK, name)
+    text = open(path).read()
+    assert text.count(old) == 1, (name, old, text.count(old))
+    open(path, "w").write(text.replace(old, new))
+    return text
+
+def run_one(file, old, new):
+    path = os.path.join(WORK, "faulty/src", file)
+    before = edit("faulty/src/" + file, old, new)
+    try:
+        build = subprocess.run(["cargo", "build", "--release", "-j1", "--offline", "--features", "self-test"],
+                               cwd=os.path.join(WORK, "differential"), capture_output=True, text=True)
+        if build.returncode:
+            return "does not build: " + build.stderr[-900:]
+        try:
+            run = subprocess.run(["target/release/differential", "--seed", SEED, "--count", COUNT],
+                                 cwd=os.path.join(WORK, "differential"), capture_output=True, text=True, timeout=240)
+        except subprocess.TimeoutExpired:
+            return "NOT FOUND: timeout"
+        if run.returncode == 0:
+            return "NOT FOUND"
+        return run.stdout
+    finally:
+        open(path, "w").write(before)
+
+def main():
+    prepare()
+    for name, file, old, new in FAULTS:
+        text = open(os.path.join(WORK, "faulty/src", file)).read()
+        assert text.count(old) == 1, (name, text.count(old))
+    only = sys.argv[1:]
+    rows = []
+    for number, (name, file, old, new) in enumerate(FAULTS, 1):
+        if only and str(number) not in only:
+            continue
+        out = run_one(file, old, new)
+        where = re.search(r"again with: (.*)", out)
+        what = re.search(r"difference: (.*)", out)
+        told = what.group(1)[:150] if what else ("panic in the copy" if "panic" in out else out)
+        row = (number, name, file, where.group(1) if where else "-", told)
+        print(*row, sep=" | ", flush=True)
+        rows.append(row)
+    if not only:
+        write(rows)
+
+def write(rows):
+    """The table between the two marks of the page."""
+    table = "\n| | fault | file | found by |\n|-|-|-|-|\n"
+    for number, name, file, where, told in rows:
+        table += f"| {number} | {name} | {file} | `{where}` |\n"
+    text = open(PAGE).read()
+    begin, end = "<!-- planted -->\n", "\n<!-- end of planted -->"
+    head, rest = text.split(begin)
+    open(PAGE, "w").write(head + begin + table + end + rest.split(end)[1])
+
+if __name__ == "__main__":
+    main()

@@ -1,0 +1,161 @@
+//! Store and removal. Both look first and write last: nothing is written
+//! before it is known that the call answers 0.
+
+use crate::bits::{BitSet, set_marks};
+use crate::check::{Accepted, accept};
+use crate::record::{check_key, write_entry};
+use crate::search::Found;
+use crate::slot::HashParts;
+use crate::tier::Tier;
+use crate::{Answer, number};
+
+/// An entry to be removed, free of the image that it was found in.
+#[derive(Clone, Copy)]
+struct Old {
+    tier: Tier,
+    slot: usize,
+    first_chunk: usize,
+    chunks: usize,
+}
+
+impl From<Found<'_>> for Old {
+    fn from(found: Found) -> Old {
+        Old {
+            tier: found.tier,
+            slot: found.slot,
+            first_chunk: found.entry.first_chunk,
+            chunks: found.entry.chunks,
+        }
+    }
+}
+
+/// Where a new entry goes.
+enum Room {
+    Chained(Tier, usize),
+    FreeTier(Tier),
+}
+
+pub fn remove(block: &[u8], image: &mut [u8], key: &[u8]) -> Answer<()> {
+    let map = accept(block, image)?;
+    check_key(key)?;
+    let parts = map.frame.settings.hash_parts(key);
+    let old = map.find(image, parts, key).ok_or(number::ABSENT)?.into();
+    map.take_out(image, old);
+    Ok(())
+}
+
+pub fn store(block: &[u8], image: &mut [u8], key: &[u8], value: &[u8]) -> Answer<()> {
+    let map = accept(block, image)?;
+    check_key(key)?;
+    let settings = &map.frame.settings;
+    let needed = settings.chunks_needed(key, value)?;
+    let parts = settings.hash_parts(key);
+    let old: Option<Old> = map.find(image, parts, key).map(Old::from);
+    let room = map
+        .room(image, parts.segment, needed, old)
+        .ok_or(number::FULL)?;
+    if let Some(old) = old {
+        map.take_out(image, old);
+    }
+    let (tier, first_chunk) = match room {
+        Room::Chained(tier, first_chunk) => (tier, first_chunk),
+        Room::FreeTier(tier) => {
+            map.chain_up(image, parts.segment, &tier);
+            (tier, 0)
+        }
+    };
+    let start = tier.space + first_chunk * settings.chunk_size;
+    write_entry(&mut image[start..], key, value);
+    map.put_in(image, &tier, parts, first_chunk, needed);
+    Ok(())
+}
+
+impl Accepted {
+    /// The first tier that takes `needed` chunks once `old` is gone, else
+    /// the first free tier.
+    fn room(&self, image: &[u8], segment: usize, needed: usize, old: Option<Old>) -> Option<Room> {
+        let settings = &self.frame.settings;
+        for tier in self.chain(segment) {
+            let mut full_slots = tier.entry_count(image) as usize;
+            let mut marked = BitSet::marked(settings, image, &tier);
+            if let Some(old) = old.filter(|old| old.tier.index == tier.index) {
+                full_slots -= 1;
+                marked.drop(old.first_chunk, old.chunks);
+            }
+            if full_slots > settings.slots - 2 {
+                continue;
+            }
+            if let Some(first_chunk) = marked.clear_run(needed) {
+                return Some(Room::Chained(tier, first_chunk));
+            }
+        }
+        let free = *self.chains.free.first()?;
+        Some(Room::FreeTier(self.frame.tier(free as usize)))
+    }
+
+    /// Clears the chunks and the slot of an entry; its bytes stay.
+    fn take_out(&self, image: &mut [u8], old: Old) {
+        let tier = &old.tier;
+        set_marks(image, tier, old.first_chunk, old.chunks, false);
+        self.empty_slot(image, tier, old.slot);
+        let entries = tier.entry_count(image) - 1;
+        self.set_counters(image, tier, entries);
+    }
+
+    /// Empties a slot and closes the hole: a later slot of the run that has
+    /// its start at the hole or before it could not be reached any more, so
+    /// it moves there and leaves the hole behind.
+    fn empty_slot(&self, image: &mut [u8], tier: &Tier, slot: usize) {
+        let settings = &self.frame.settings;
+        let mut hole = slot;
+        let mut place = settings.next_slot(hole);
+        loop {
+            let value = settings.slot_at(image, tier, place);
+            if value == 0 {
+                break;
+            }
+            let start = settings.start_slot(settings.lookup_key(value));
+            if settings.slot_distance(start, place) >= settings.slot_distance(hole, place) {
+                settings.set_slot(image, tier, hole, value);
+                hole = place;
+            }
+            place = settings.next_slot(place);
+        }
+        settings.set_slot(image, tier, hole, 0);
+    }
+
+    /// Moves the first free tier to the end of a segment's chain. What its
+    /// counters held before says nothing, but for its next.
+    fn chain_up(&self, image: &mut [u8], segment: usize, tier: &Tier) {
+        let chain = self.chains.of(segment);
+        let last = self.frame.tier(chain[chain.len() - 1] as usize);
+        let next_free = tier.next(image);
+        let used = self.frame.used(image) + 1;
+        self.frame.set_first_free(image, next_free);
+        self.frame.set_used(image, used);
+        last.set_next(image, tier.index as u64);
+        tier.set_next(image, 0);
+        tier.set_standing(image, last.index, segment, chain.len());
+        tier.set_entry_count(image, 0);
+    }
+
+    /// Fills the first empty slot from the start, and marks the chunks.
+    fn put_in(&self, image: &mut [u8], tier: &Tier, parts: HashParts, first: usize, count: usize) {
+        let settings = &self.frame.settings;
+        let mut place = settings.start_slot(parts.lookup_key);
+        while settings.slot_at(image, tier, place) != 0 {
+            place = settings.next_slot(place);
+        }
+        let slot = settings.join_slot(parts.lookup_key, first);
+        settings.set_slot(image, tier, place, slot);
+        set_marks(image, tier, first, count, true);
+        let entries = tier.entry_count(image) + 1;
+        self.set_counters(image, tier, entries);
+    }
+
+    fn set_counters(&self, image: &mut [u8], tier: &Tier, entries: u32) {
+        let marked = BitSet::marked(&self.frame.settings, image, tier);
+        tier.set_entry_count(image, entries);
+        tier.set_lowest_free(image, marked.next_clear(0));
+    }
+}

@@ -1,0 +1,80 @@
+//! An independent implementation of the lent map image: check, lookup,
+//! store, remove and list, over a settings block and an image of any bytes.
+//!
+//! Every call settles the whole image first (see [`check`]) and works on it
+//! afterwards without a further doubt: what the check has passed is indexed
+//! directly, and no offset can fall outside.
+
+#![forbid(unsafe_code)]
+
+mod bits;
+mod bytes;
+mod chains;
+mod check;
+mod edit;
+mod frame;
+mod hash;
+mod leb128;
+mod record;
+mod search;
+mod settings;
+mod slot;
+mod tier;
+
+#[cfg(test)]
+mod tests;
+
+/// The numbers that an answer can carry besides 0.
+mod number {
+    pub const ABSENT: u32 = 1;
+    pub const BLOCK: u32 = 2;
+    pub const FIELD: u32 = 3;
+    pub const FRAME: u32 = 4;
+    pub const CHAINS: u32 = 5;
+    pub const SLOTS: u32 = 6;
+    pub const CHUNKS: u32 = 7;
+    pub const KEY: u32 = 8;
+    pub const VALUE: u32 = 9;
+    pub const FULL: u32 = 10;
+}
+
+/// A number from [`number`] as the failure.
+type Answer<T> = Result<T, u32>;
+
+/// Entries, marked chunks, chained tiers and free tiers of an accepted image.
+pub fn check(block: &[u8], image: &[u8]) -> (u32, [u64; 4]) {
+    numbers(check::accept(block, image).map(|map| map.counts))
+}
+
+/// Offset and length of the record under `key`.
+pub fn lookup(block: &[u8], image: &[u8], key: &[u8]) -> (u32, [u64; 2]) {
+    numbers(search::record_of(block, image, key))
+}
+
+/// Puts `value` under `key`, in place of an earlier record.
+pub fn store(block: &[u8], image: &mut [u8], key: &[u8], value: &[u8]) -> u32 {
+    edit::store(block, image, key, value).err().unwrap_or(0)
+}
+
+/// Drops the entry of `key`.
+pub fn remove(block: &[u8], image: &mut [u8], key: &[u8]) -> u32 {
+    edit::remove(block, image, key).err().unwrap_or(0)
+}
+
+/// Segment, tier, slot, first chunk, chunks, key length and value length of
+/// the `n`-th live entry.
+pub fn entry(block: &[u8], image: &[u8], n: u64) -> (u32, [u64; 7]) {
+    numbers(search::nth_entry(block, image, n))
+}
+
+/// XXH64 with seed 0.
+pub fn xxh64(bytes: &[u8]) -> u64 {
+    hash::xxh64(bytes)
+}
+
+fn numbers<const COUNT: usize>(answer: Answer<[u64; COUNT]>) -> (u32, [u64; COUNT]) {
+    match answer {
+        Ok(numbers) => (0, numbers),
+        Err(number) => (number, [0; COUNT]),
+    }
+}

@@ -1,0 +1,41 @@
+//! The worked store, the run-only cases, and cases of our own.
+
+mod hash_vectors;
+mod worked_store;
+
+use crate::leb128;
+
+#[test]
+fn lengths_are_written_shortest() {
+    let cases: [(usize, &[u8]); 6] = [
+        (0, &[0x00]),
+        (127, &[0x7F]),
+        (128, &[0x80, 0x01]),
+        (16_383, &[0xFF, 0x7F]),
+        (16_384, &[0x80, 0x80, 0x01]),
+        (65_535, &[0xFF, 0xFF, 0x03]),
+    ];
+    for (number, bytes) in cases {
+        let mut written = [0xAA; 4];
+        assert_eq!(leb128::write(&mut written, number), bytes.len());
+        assert_eq!(&written[..bytes.len()], bytes);
+        assert_eq!(written[bytes.len()], 0xAA);
+        assert_eq!(leb128::size(number), bytes.len());
+        assert_eq!(leb128::read(bytes), Some((number, bytes.len())));
+        assert_eq!(leb128::read(&bytes[..bytes.len() - 1]), None);
+    }
+}
+
+#[test]
+fn longer_forms_are_not_read() {
+    let cases: [&[u8]; 5] = [
+        &[0x80, 0x00],
+        &[0xFF, 0x00],
+        &[0x80, 0x80, 0x00],
+        &[0x80, 0x80, 0x80, 0x01],
+        &[],
+    ];
+    for bytes in cases {
+        assert_eq!(leb128::read(bytes), None, "{bytes:02X?}");
+    }
+}
