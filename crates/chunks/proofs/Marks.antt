@@ -1,12 +1,12 @@
 -- What the loops over a tier's marks find. Assumes nothing.
 use Prim.Native.Nat.{ℕ, _+_, _≤_, _<_}
 use mathlib.Core.List.{List}
-use mathlib.Core.Path.{_≡_, refl, _∙_}
+use mathlib.Core.Path.{_≡_, refl, _∙_, subst}
 use mathlib.Core.Logic.{⊎-elim, _≢_}
 use native.Mathlib.Omega.{arith}
 use native.Mathlib.Nat.{zero-add}
 use lib.Dec.{eqb}
-use borrow.Author.Tests.{eq-eqb, ne-eqb, eqb-false}
+use borrow.Author.Tests.{eq-eqb, ne-eqb}
 use Rattle.lists.specs.Cases.{same-or}
 use Rattle.lists.specs.Lists.{span, below, first, those, howMany}
 use Rattle.lists.specs.Quantify.{Below}
@@ -14,21 +14,21 @@ use Rattle.lists.proofs.Lists.{howMany-le, length-span}
 use Rattle.layout.specs.declared.Shape.{Shape}
 use Rattle.layout.specs.Places.{mark}
 use Rattle.layout.proofs.Marks.{mark-lt}
+use Rattle.chunks.specs.declared.Compared.{Compared}
+use Rattle.chunks.specs.declared.Compared.the-variants.{Same, Differ}
 use Rattle.chunks.specs.Chunks.{clear, lowestClear, markedIn}
-use Rattle.lists.proofs.Rows.{first-at, first-none, howMany-more, howMany-less, none-passes, none-counted}
+pub use Rattle.chunks.specs.Counting.{markedBelow}
+use Rattle.chunks.specs.Counting.{MarksBelow}
+use Rattle.lists.proofs.Rows.{first-at, first-none, howMany-more, howMany-less}
 
 module _ (z : Shape) (img : List ℕ) (t : ℕ) where
   -- ---- how many are marked
 
-  -- among the first n
-  unfoldable pub markedBelow : ℕ → ℕ
-  markedBelow n = howMany (below n) (λ i. eqb (mark z img t i) 1)
-
-  pub marked-none : markedBelow 0 ≡ 0
+  pub marked-none : markedBelow z img t 0 ≡ 0
   unfolding markedBelow span those
   marked-none = refl
 
-  pub marked-more : (n : ℕ) → markedBelow (n + 1) ≡ markedBelow n + mark z img t n
+  pub marked-more : (n : ℕ) → markedBelow z img t (n + 1) ≡ markedBelow z img t n + mark z img t n
   unfolding markedBelow
   marked-more n =
       ⊎-elim
@@ -37,24 +37,24 @@ module _ (z : Shape) (img : List ℕ) (t : ℕ) where
       howMany-less (λ i. eqb (mark z img t i) 1) n (ne-eqb (mark z img t n) 1 e) ∙ omega (arith, mark-lt z img t n))
       (same-or (mark z img t n) 1)
 
-  pub marked-all : markedBelow (z .settings .chunks) ≡ markedIn z img t
+  pub marked-all : markedBelow z img t (z .settings .chunks) ≡ markedIn z img t
   unfolding markedBelow markedIn
   marked-all = refl
 
-  pub marked-le : (n : ℕ) → markedBelow n ≤ n
+  pub marked-le : (n : ℕ) → markedBelow z img t n ≤ n
   unfolding markedBelow
   marked-le n = omega (arith, howMany-le (λ i. eqb (mark z img t i) 1) (below n), length-span 0 n)
 
-  -- none is marked where all are clear
-  pub marked-zero : markedIn z img t ≡ 0 → Below (z .settings .chunks) (λ i. mark z img t i ≡ 0)
-  unfolding markedIn
-  marked-zero e i h =
-      let f : mark z img t i ≢ 1 = eqb-false (mark z img t i) 1 (none-passes (λ k. eqb (mark z img t k) 1) (z .settings .chunks) e i h) in
-      omega (arith, mark-lt z img t i)
+  -- ---- what comparing marks with counts gave, with the equation that it is taken by
 
-  pub zero-marked : Below (z .settings .chunks) (λ i. mark z img t i ≡ 0) → markedIn z img t ≡ 0
-  unfolding markedIn
-  zero-marked f = none-counted (λ k. eqb (mark z img t k) 1) (z .settings .chunks) (λ i h. ne-eqb (mark z img t i) 1 (omega (arith, f i h)))
+  module _ (l : List ℕ) (n : ℕ) where
+    pub same-taken : (r : Compared) → MarksBelow z img t l n r → {m : ℕ} → r ≡ Same m → MarksBelow z img t l n (Same m)
+    same-taken r w e = subst (MarksBelow z img t l n) e w
+
+    pub differ-taken : (n′ : ℕ) (r : Compared) → MarksBelow z img t l n r → r ≡ Differ → n ≤ n′ → MarksBelow z img t l n′ Differ
+    differ-taken n′ r w e h f =
+        let g : MarksBelow z img t l n Differ = subst (MarksBelow z img t l n) e w in
+        g (λ i k. f i (omega arith))
 
   -- ---- the lowest clear chunk
 

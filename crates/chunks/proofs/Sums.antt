@@ -23,7 +23,7 @@ use Rattle.chunks.specs.declared.Chunks.{Chunks}
 use Rattle.chunks.specs.declared.Chunks.the-variants.{Fit, Broken}
 use Rattle.chunks.specs.Chunks.{markedIn, TierFits, FreeTierFits}
 use Rattle.chunks.specs.Counting.{TierCounts, ChainCounts, AllCounts}
-use Rattle.chunks.proofs.Marks.{marked-all, marked-le, marked-zero, zero-marked}
+use Rattle.chunks.proofs.Marks.{marked-all, marked-le}
 use Rattle.chunks.proofs.Through.{Through, through-starts, through-short, through-ends, through-all, through-turns}
 
 module _ (z : Shape) (img : List ℕ) where
@@ -189,9 +189,3 @@ module _ (z : Shape) (img : List ℕ) where
 
   pub free-turns : {t : ℕ} (w : Freeing t) → t ≢ 0 → FreeTierFits z img t → {u : ℕ} → u ≡ nextOf z img t → Freeing u
   free-turns {t} w ne p e = (w .0 ++ (t ∷ []), through-turns z img (w .1) ne e p)
-
-  pub free-right : {t n : ℕ} → Below slots (λ j. slotAt z img t j ≡ 0) → n ≡ markedIn z img t → n ≡ 0 → FreeTierFits z img t
-  free-right {t} f e q = record { slotsEmpty = f; chunksClear = marked-zero z img t (sym e ∙ q) }
-
-  pub free-marked : {t n : ℕ} → n ≡ markedIn z img t → n ≢ 0 → FreeTierFits z img t → ⊥
-  free-marked {t} e ne f = ne (e ∙ zero-marked z img t (f .chunksClear))

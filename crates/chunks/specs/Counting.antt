@@ -1,13 +1,16 @@
 -- What is asked of an image before its chunks are counted, and what the counts of a tier, a chain and several chains say.
-use Prim.Native.Nat.{ℕ, _+_, _≤_}
+use Prim.Native.Nat.{ℕ, _+_, _*_, _≤_, _<_}
 use mathlib.Core.List.{List, flatMap}
 use mathlib.Core.Path.{_≡_}
 use mathlib.Core.Logic.{_≢_}
-use lib.ListN.{length}
-use Rattle.lists.specs.Lists.{span, below, total}
+use lib.Dec.{eqb}
+use lib.ListN.{length, getD}
+use Rattle.lists.specs.Lists.{span, below, howMany, total}
 use Rattle.lists.specs.Quantify.{Below, Every}
+use Rattle.words.specs.Bits.{bitOf}
 use Rattle.settings.specs.declared.Settings.{Settings}
 use Rattle.layout.specs.declared.Shape.{Shape}
+use Rattle.layout.specs.Places.{mark}
 use Rattle.chains.specs.Chains.{chain}
 use Rattle.chains.specs.Walk.{tally}
 use Rattle.entries.specs.declared.Live.{Live}
@@ -15,6 +18,8 @@ use Rattle.entries.specs.Stored.{chunksFor}
 use Rattle.entries.specs.Live.{slotAt, chunkOf, entryAt, fullSlots, liveIn, liveOf}
 use Rattle.chunks.specs.declared.Chunks.{Chunks}
 use Rattle.chunks.specs.declared.Chunks.the-variants.{Fit, Broken}
+use Rattle.chunks.specs.declared.Compared.{Compared}
+use Rattle.chunks.specs.declared.Compared.the-variants.{Same, Differ}
 use Rattle.chunks.specs.Chunks.{TierFits, markedIn}
 
 -- the chunks of an entry; those of several, one after the other
@@ -24,9 +29,36 @@ chunksOfEntry e = span (e .chunk) (e .chunks)
 unfoldable pub chunksOfAll : List Live → List ℕ
 chunksOfAll es = flatMap chunksOfEntry es
 
+-- ---- 4 counts in one number, and bits spread out in the same way
+
+abbrev pub IsFour : List ℕ → ℕ → ℕ → Type 0
+IsFour l i r =
+    (r ≡ getD l i 0 + getD l (i + 1) 0 * 65536 + getD l (i + 2) 0 * 4294967296 + getD l (i + 3) 0 * 281474976710656) ×
+    ((getD l i 0 < 65536) × (getD l (i + 1) 0 < 65536)) × ((getD l (i + 2) 0 < 65536) × (getD l (i + 3) 0 < 65536))
+
+abbrev pub spreadOf : ℕ → ℕ
+spreadOf v = bitOf v 0 + bitOf v 1 * 65536 + bitOf v 2 * 4294967296 + bitOf v 3 * 281474976710656
+
+-- how many of the 8 bits of a byte are 1
+unfoldable pub onesOf : ℕ → ℕ
+onesOf v = bitOf v 0 + bitOf v 1 + bitOf v 2 + bitOf v 3 + bitOf v 4 + bitOf v 5 + bitOf v 6 + bitOf v 7
+
 module _ (z : Shape) (img : List ℕ) where
   open Shape z using (settings)
   open Settings settings using (segments, slots, chunks)
+
+  -- v is the byte with the bits of the 8 chunks from i on
+  abbrev pub IsByte : ℕ → ℕ → ℕ → Type 0
+  IsByte t i v = Below 8 (λ k. mark z img t (i + k) ≡ bitOf v k)
+
+  -- how many of the first n chunks are marked
+  unfoldable pub markedBelow : ℕ → ℕ → ℕ
+  markedBelow t n = howMany (below n) (λ i. eqb (mark z img t i) 1)
+
+  -- the bits of the first n chunks are their counts, and how many are 1; or one bit is not its chunk's count
+  abbrev pub MarksBelow : ℕ → List ℕ → ℕ → Compared → Type 0
+  MarksBelow t covered n (Same m) = Below n (λ i. getD covered i 0 ≡ mark z img t i) × (m ≡ markedBelow t n)
+  MarksBelow t covered n Differ = Below n (λ i. getD covered i 0 ≡ mark z img t i) → ⊥
 
   -- the entry of each full slot of tier t ends within the tier
   abbrev pub RangesIn : ℕ → Type 0

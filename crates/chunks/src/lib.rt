@@ -1,24 +1,32 @@
 // The free lists and the counters.
 use layout::Shape;
 ghost use mathlib.Core.Path.{_≡_};
-ghost use Prim.Native.Nat.{_+_, _<_, _≤_};
+ghost use mathlib.Core.Logic.{_≢_};
+ghost use Prim.Native.Nat.{_+_, _*_, _/_, _%_, _<_, _≤_};
 ghost use lib.ListN.{length, getD};
 ghost use Rattle.lists.specs.Decide.{Decides};
 ghost use Rattle.lists.specs.Lists.{span};
 ghost use Rattle.lists.specs.Quantify.{Below, Every};
+ghost use Rattle.words.specs.Bits.{bitOf};
 ghost use Rattle.layout.specs.Tiers.{IsTier};
-ghost use Rattle.layout.specs.Places.{mark};
+ghost use Rattle.layout.specs.Places.{freeListAt, mark};
 ghost use Rattle.layout.specs.Frame.{Framed};
 ghost use Rattle.chains.specs.Chains.{freeChain, ChainFits, FreeChainFits, ChainsFit};
 ghost use Rattle.chains.specs.Walk.{tally, MetAtMost};
 ghost use Rattle.entries.specs.Live.{slotAt};
-ghost use Rattle.chunks.specs.Chunks.{lowestClear, markedIn, FreeTierFits, chunksOf};
-ghost use Rattle.chunks.specs.Counting.{RangesIn, RangesFit, Covers, TierCounts, ChainCounts, AllCounts};
+ghost use Rattle.chunks.specs.Chunks.{lowestClear, FreeTierFits, chunksOf};
+ghost use Rattle.chunks.specs.Counting.{IsByte, IsFour, spreadOf, onesOf, MarksBelow, RangesIn, RangesFit, Covers, TierCounts, ChainCounts, AllCounts};
 
 // Whether chunks and counters fit: how many entries are live and how many chunks marked, or that a rule is broken.
 pub enum Chunks {
     Fit(usize, usize),
     Broken,
+}
+
+// Whether the bits of a tier are the counts of its chunks: how many are 1, or that one is not.
+enum Compared {
+    Same(usize),
+    Differ,
 }
 
 // Counts n chunks from c on once more.
@@ -51,34 +59,124 @@ fn cover(z: Shape, img: &[u8], s: usize, t: usize, covered: &mut [u16]) -> usize
     n
 }
 
-// Whether the bit of each chunk is how many entries cover it.
-fn marks_agree(z: Shape, img: &[u8], t: usize, covered: &[u16]) -> bool
-    requires { ⌜ Framed z (length (now img)) × IsTier z t × (z .settings .chunks ≤ length (now covered)) ⌝ }
-    ensures { λ r. ⌜ Decides r (Below (z .settings .chunks) (λ i. getD (now (covered .entry)) i 0 ≡ mark z (now (img .entry)) t i)) ⌝ }
+// The byte with the bits of the 8 chunks from i on, of the free list at an offset: the loops work the offset out once.
+fn byte_of(z: Shape, img: &[u8], t: usize, at: usize, i: usize) -> u8
+    requires { ⌜ Framed z (length (now img)) × IsTier z t × (at ≡ freeListAt z t) × (i + 8 ≤ z .settings .chunks) × (i % 8 ≡ 0) ⌝ }
+    ensures { λ r. ⌜ IsByte z (now (img .entry)) t i r ⌝ }
 {
-    let last = z.settings.chunks - 1;
-    let mut i = 0;
-    while i <= last {
-        if covered[i] != layout::read::mark(z, img, t, i) as u16 {
-            return false;
-        }
-        i += 1;
+    img[at + i / 8]
+}
+
+fn wide(x: u16) -> u64
+    ensures { λ r. ⌜ (r ≡ x) × (r < 65536) ⌝ }
+{
+    x as u64
+}
+
+// The counts of 4 chunks as one number, written out so that it compiles to one load.
+fn four(covered: &[u16], i: usize) -> u64
+    requires { ⌜ i + 4 ≤ length (now covered) ⌝ }
+    ensures { λ r. ⌜ IsFour (now (covered .entry)) i r ⌝ }
+{
+    wide(covered[i])
+        + wide(covered[i + 1]) * 65536
+        + wide(covered[i + 2]) * 4294967296
+        + wide(covered[i + 3]) * 281474976710656
+}
+
+// The 4 lowest bits of a number, spread out in the same way.
+fn spread(v: u8) -> u64
+    ensures { λ r. ⌜ r ≡ spreadOf v ⌝ }
+{
+    if v == 0 {
+        return 0;
+    }
+    let w = v as u64;
+    w % 2 + w / 2 % 2 * 65536 + w / 4 % 2 * 4294967296 + w / 8 % 2 * 281474976710656
+}
+
+// Whether the 8 bits of a byte are how many entries cover the chunks from i on.
+fn byte_agrees(covered: &[u16], i: usize, v: u8) -> bool
+    requires { ⌜ i + 8 ≤ length (now covered) ⌝ }
+    ensures { λ r. ⌜ Decides r (Below 8 (λ k. getD (now (covered .entry)) (i + k) 0 ≡ bitOf v k)) ⌝ }
+{
+    if four(covered, i) != spread(v) {
+        return false;
+    }
+    if four(covered, i + 4) != spread(v / 16) {
+        return false;
     }
     true
 }
 
-// How many chunks of a tier are marked.
-fn marked_in(z: Shape, img: &[u8], t: usize) -> usize
-    requires { ⌜ Framed z (length (now img)) × IsTier z t ⌝ }
-    ensures { λ r. ⌜ r ≡ markedIn z (now (img .entry)) t ⌝ }
+// How many bits of a byte are 1.
+fn ones(v: u8) -> usize
+    ensures { λ r. ⌜ r ≡ onesOf v ⌝ }
 {
-    let mut n = 0;
+    if v == 0 {
+        return 0;
+    }
+    let w = v as usize;
+    w % 2 + w / 2 % 2 + w / 4 % 2 + w / 8 % 2 + w / 16 % 2 + w / 32 % 2 + w / 64 % 2 + w / 128 % 2
+}
+
+// Whether the bit of each chunk is how many entries cover it, and how many are 1: the chunks of whole bytes.
+fn bytes_agree(z: Shape, img: &[u8], t: usize, covered: &[u16]) -> Compared
+    requires { ⌜ Framed z (length (now img)) × IsTier z t × (z .settings .chunks ≤ length (now covered)) ⌝ }
+    ensures { λ r. ⌜ MarksBelow z (now (img .entry)) t (now (covered .entry)) (z .settings .chunks / 8 * 8) r ⌝ }
+{
+    let at = layout::free_list_at(z, t);
+    let whole = z.settings.chunks / 8 * 8;
+    let mut marked = 0;
     let mut i = 0;
-    while i < z.settings.chunks {
-        n += layout::read::mark(z, img, t, i) as usize;
+    while i < whole {
+        let v = byte_of(z, img, t, at, i);
+        if !byte_agrees(covered, i, v) {
+            return Compared::Differ;
+        }
+        marked += ones(v);
+        i += 8;
+    }
+    Compared::Same(marked)
+}
+
+// The same for all chunks of a tier.
+fn marks_agree(z: Shape, img: &[u8], t: usize, covered: &[u16]) -> Compared
+    requires { ⌜ Framed z (length (now img)) × IsTier z t × (z .settings .chunks ≤ length (now covered)) ⌝ }
+    ensures { λ r. ⌜ MarksBelow z (now (img .entry)) t (now (covered .entry)) (z .settings .chunks) r ⌝ }
+{
+    let Compared::Same(first) = bytes_agree(z, img, t, covered) else {
+        return Compared::Differ;
+    };
+    let last = z.settings.chunks - 1;
+    let mut marked = first;
+    let mut i = z.settings.chunks / 8 * 8;
+    while i <= last {
+        let bit = layout::read::mark(z, img, t, i);
+        if covered[i] != bit as u16 {
+            return Compared::Differ;
+        }
+        marked += bit as usize;
         i += 1;
     }
-    n
+    Compared::Same(marked)
+}
+
+// Chunks of whole bytes, from the first on, that are all marked: as many as there are before a byte with a 0.
+fn marked_bytes(z: Shape, img: &[u8], t: usize) -> usize
+    requires { ⌜ Framed z (length (now img)) × IsTier z t ⌝ }
+    ensures { λ r. ⌜ (r ≤ z .settings .chunks) × Below r (λ i. mark z (now (img .entry)) t i ≢ 0) ⌝ }
+{
+    let at = layout::free_list_at(z, t);
+    let whole = z.settings.chunks / 8 * 8;
+    let mut i = 0;
+    while i < whole {
+        if byte_of(z, img, t, at, i) != 255 {
+            return i;
+        }
+        i += 8;
+    }
+    i
 }
 
 // The lowest clear chunk of a tier, or the number of chunks if none is.
@@ -86,7 +184,7 @@ pub fn lowest_clear(z: Shape, img: &[u8], t: usize) -> usize
     requires { ⌜ Framed z (length (now img)) × IsTier z t ⌝ }
     ensures { λ r. ⌜ r ≡ lowestClear z (now (img .entry)) t ⌝ }
 {
-    let mut i = 0;
+    let mut i = marked_bytes(z, img, t);
     while i < z.settings.chunks {
         if layout::read::mark(z, img, t, i) == 0 {
             return i;
@@ -96,6 +194,38 @@ pub fn lowest_clear(z: Shape, img: &[u8], t: usize) -> usize
     i
 }
 
+// Chunks of whole bytes, from the first on, that are all clear: as many as there are before a byte with a 1.
+fn clear_bytes(z: Shape, img: &[u8], t: usize) -> usize
+    requires { ⌜ Framed z (length (now img)) × IsTier z t ⌝ }
+    ensures { λ r. ⌜ (r ≤ z .settings .chunks) × Below r (λ i. mark z (now (img .entry)) t i ≡ 0) ⌝ }
+{
+    let at = layout::free_list_at(z, t);
+    let whole = z.settings.chunks / 8 * 8;
+    let mut i = 0;
+    while i < whole {
+        if byte_of(z, img, t, at, i) != 0 {
+            return i;
+        }
+        i += 8;
+    }
+    i
+}
+
+// Whether all chunks of a tier are clear.
+fn all_clear(z: Shape, img: &[u8], t: usize) -> bool
+    requires { ⌜ Framed z (length (now img)) × IsTier z t ⌝ }
+    ensures { λ r. ⌜ Decides r (Below (z .settings .chunks) (λ i. mark z (now (img .entry)) t i ≡ 0)) ⌝ }
+{
+    let mut i = clear_bytes(z, img, t);
+    while i < z.settings.chunks {
+        if layout::read::mark(z, img, t, i) != 0 {
+            return false;
+        }
+        i += 1;
+    }
+    true
+}
+
 // One tier of a segment's chain: its full slots and its marked chunks.
 fn tier_fits(z: Shape, img: &[u8], s: usize, t: usize) -> Chunks
     requires { ⌜ Framed z (length (now img)) × IsTier z t × RangesIn z (now img) t ⌝ }
@@ -103,9 +233,9 @@ fn tier_fits(z: Shape, img: &[u8], s: usize, t: usize) -> Chunks
 {
     let mut covered = [0u16; 4096];
     let full = cover(z, img, s, t, &mut covered);
-    if !marks_agree(z, img, t, &covered) {
+    let Compared::Same(marked) = marks_agree(z, img, t, &covered) else {
         return Chunks::Broken;
-    }
+    };
     if layout::read::count_of(z, img, t) != full as u64 {
         return Chunks::Broken;
     }
@@ -113,7 +243,6 @@ fn tier_fits(z: Shape, img: &[u8], s: usize, t: usize) -> Chunks
     if layout::read::low_of(z, img, t) != low as u64 {
         return Chunks::Broken;
     }
-    let marked = marked_in(z, img, t);
     Chunks::Fit(full, marked)
 }
 
@@ -180,7 +309,7 @@ fn free_fits(z: Shape, img: &[u8]) -> bool
         if !slots_empty(z, img, t) {
             return false;
         }
-        if marked_in(z, img, t) != 0 {
+        if !all_clear(z, img, t) {
             return false;
         }
         t = layout::read::next_of(z, img, t) as usize;

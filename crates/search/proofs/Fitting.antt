@@ -2,10 +2,12 @@
 use Prim.Native.Nat.{ℕ, zero, suc, _+_, _-_, _≤_, _<_}
 use mathlib.Core.List.{List, [], _∷_, List·Memᴰ}
 use mathlib.Core.Path.{_≡_, refl, ap, ap₂, sym, _∙_, subst}
-use mathlib.Core.Logic.{_≢_}
+use mathlib.Core.Logic.{⊎-elim, _≢_}
 use native.Mathlib.Omega.{arith}
 use lib.ListN.{length, take, drop}
+use Rattle.lists.specs.Cases.{lt-or}
 use Rattle.lists.specs.Quantify.{Below, Every}
+use Rattle.lists.proofs.Upto.{Upto}
 use Rattle.words.specs.Bytes.{cut}
 use Rattle.settings.specs.declared.Settings.{Settings}
 use Rattle.layout.specs.declared.Shape.{Shape}
@@ -97,6 +99,20 @@ module _ (z : Shape) (img : List ℕ) (s t j : ℕ) where
             hashed = rw (ev, key-is) at h;
           }
 
+-- ---- empty slots that a loop passes over
+
+module _ (z : Shape) (img : List ℕ) (t : ℕ) (Q : ℕ → Type 0) where
+  open Shape z using (settings)
+  open Settings settings using (slots)
+
+  pub upto-skips : {j : ℕ} → Upto (λ i. slotAt z img t i ≢ 0 → Q i) slots j → (r : ℕ) → r ≤ slots → Below r (λ i. j ≤ i → slotAt z img t i ≡ 0)
+      → Upto (λ i. slotAt z img t i ≢ 0 → Q i) slots r
+  upto-skips {j} u r h e =
+      record {
+        low = h;
+        held = λ i hi full. ⊎-elim (λ (l : i < j). u .held i l full) (λ (l : j ≤ i). absurd (full (e i hi l))) (lt-or i j);
+      }
+
 -- ---- where a search ended
 
 pub never-both : (r : Found) (t j u k : ℕ) → r ≡ At t j → r ≡ Absent u k → ⊥
@@ -104,9 +120,6 @@ never-both r t j u k p q = let z : _≡_ {A = ℕ} 0 1 = cc in omega arith
 
 pub same-tier : (r : Found) (t j u k : ℕ) → r ≡ At t j → r ≡ At u k → u ≡ t
 same-tier r t j u k p q = cc
-
-pub same-slot : (r : Found) (t j u k : ℕ) → r ≡ At t j → r ≡ At u k → k ≡ j
-same-slot r t j u k p q = cc
 
 module _ (z : Shape) (img : List ℕ) (t j : ℕ) where
   room-of : Framed z (length img) → IsTier z t → (r : Stored) → stored z img t (chunkOf z img t j) ≡ r → IsWhole r → entryAt z img t j .keyAt + entryAt z img t j .keyLength ≤ length img

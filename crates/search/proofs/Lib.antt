@@ -2,3 +2,4 @@ pub mod Slots
 pub mod Landing
 pub mod Seeking
 pub mod Fitting
+pub mod Ending

@@ -5,12 +5,15 @@ use entries::Stored;
 use layout::Shape;
 use probe::Cursor;
 ghost use mathlib.Core.Path.{_≡_};
+ghost use mathlib.Core.Logic.{_≢_};
 ghost use Prim.Native.Nat.{_<_, _≤_};
 ghost use lib.ListN.{length};
 ghost use Rattle.lists.specs.Decide.{Decides};
 ghost use Rattle.layout.specs.Tiers.{IsTier};
 ghost use Rattle.layout.specs.Frame.{Framed};
-ghost use Rattle.entries.specs.Keys.{lookupKey};
+ghost use Rattle.entries.specs.Keys.{segmentOf, lookupKey};
+ghost use Rattle.entries.specs.Live.{slotAt};
+ghost use Rattle.search.specs.declared.Found.the-variants.{At as Found·At};
 ghost use Rattle.search.specs.Search.{hits as Search·hits, seekIn, search as Search·search, ChainTiers};
 ghost use Rattle.search.specs.Rules.{EntriesFit};
 
@@ -85,4 +88,29 @@ pub fn search(z: Shape, img: &[u8], key: &[u8]) -> Found
         k += 1;
     }
     Found::Absent(tier, slot)
+}
+
+// Whether that search, for a key of segment s that is in tier t, comes to tier t: whether it ends empty in each tier before.
+fn comes_to(z: Shape, img: &[u8], key: &[u8], lookup: u64, s: usize, t: usize) -> bool
+    requires { ⌜ Framed z (length (now img)) × ChainTiers z (now img) × (s < z .settings .segments) × IsTier z t × (s ≡ segmentOf (z .settings) (now key)) × (lookup ≡ lookupKey (z .settings) (now key)) × (slotAt z (now img) t (seekIn z (now img) (now key) t) ≢ 0) ⌝ }
+    ensures { λ r. ⌜ Decides r (Search·search z (now (img .entry)) (now (key .entry)) ≡ Found·At t (seekIn z (now (img .entry)) (now (key .entry)) t)) ⌝ }
+{
+    let most = layout::tier_count(z);
+    let mut u = s + 1;
+    let mut k = 0;
+    while k < most {
+        if u == t {
+            return true;
+        }
+        if u == 0 {
+            return false;
+        }
+        let i = seek(z, img, key, lookup, u);
+        if layout::read::slot(z, img, u, i) != 0 {
+            return false;
+        }
+        u = layout::read::next_of(z, img, u) as usize;
+        k += 1;
+    }
+    false
 }

@@ -1,8 +1,8 @@
 // The rules of slots and entries, over a whole image: first each slot by itself, then that each key is found in its own slot.
-use super::Found;
 use entries::Entry;
 use entries::Stored;
 use layout::Shape;
+use probe::Cursor;
 ghost use mathlib.Core.Path.{_≡_};
 ghost use mathlib.Core.Logic.{_≢_};
 ghost use Prim.Native.Nat.{_+_, _<_, _≤_};
@@ -12,10 +12,11 @@ ghost use Rattle.lists.specs.Quantify.{Below, Every};
 ghost use Rattle.layout.specs.Tiers.{IsTier};
 ghost use Rattle.layout.specs.Frame.{Framed};
 ghost use Rattle.chains.specs.Chains.{chain};
+ghost use Rattle.entries.specs.Keys.{lookupKey};
 ghost use Rattle.entries.specs.Live.{slotAt};
 ghost use Rattle.entries.specs.Stored.{keyOf};
 ghost use Rattle.search.specs.declared.Found.the-variants.{At as Found·At};
-ghost use Rattle.search.specs.Search.{ChainTiers, search as Search·search};
+ghost use Rattle.search.specs.Search.{ChainTiers, hits, seekIn, search as Search·search};
 ghost use Rattle.search.specs.Rules.{Hashed, EntryFits, SomeEmpty, SlotsFit, keyAt, LandsIn, Lands, EntriesFit};
 
 // Whether a stored key has the hash parts that its slot and its segment say.
@@ -86,6 +87,21 @@ fn some_empty(z: Shape, img: &[u8], t: usize) -> bool
     false
 }
 
+// The first slot of tier t from j on that is not empty, or how many slots there are.
+fn skip_empty(z: Shape, img: &[u8], t: usize, j: usize) -> usize
+    requires { ⌜ Framed z (length (now img)) × IsTier z t × (j ≤ z .settings .slots) ⌝ }
+    ensures { λ r. ⌜ (j ≤ r) × (r ≤ z .settings .slots) × Below r (λ i. j ≤ i → slotAt z (now (img .entry)) t i ≡ 0) ⌝ }
+{
+    let mut i = j;
+    while i < z.settings.slots {
+        if layout::read::slot(z, img, t, i) != 0 {
+            return i;
+        }
+        i += 1;
+    }
+    i
+}
+
 fn full_fit(z: Shape, img: &[u8], s: usize, t: usize) -> bool
     requires { ⌜ Framed z (length (now img)) × IsTier z t ⌝ }
     ensures { λ r. ⌜ Decides r (Below (z .settings .slots) (λ j. slotAt z (now (img .entry)) t j ≢ 0 → EntryFits z (now (img .entry)) s t j)) ⌝ }
@@ -93,6 +109,10 @@ fn full_fit(z: Shape, img: &[u8], s: usize, t: usize) -> bool
     let last = z.settings.slots - 1;
     let mut j = 0;
     while j <= last {
+        j = skip_empty(z, img, t, j);
+        if last < j {
+            return true;
+        }
         if !entry_fits(z, img, s, t, j) {
             return false;
         }
@@ -140,35 +160,74 @@ fn all_slots_fit(z: Shape, img: &[u8]) -> bool
     true
 }
 
+// Whether a full slot of tier t that holds v stands for the key of slot j.
+fn same_hit(z: Shape, img: &[u8], s: usize, t: usize, j: usize, v: u64, lookup: u64) -> bool
+    requires { ⌜ Framed z (length (now img)) × IsTier z t × (j < z .settings .slots) × EntryFits z (now img) s t j × (lookup ≡ lookupKey (z .settings) (keyAt z (now img) t j)) ⌝ }
+    ensures { λ r. ⌜ r ≡ hits z (now (img .entry)) (keyAt z (now (img .entry)) t j) t v ⌝ }
+{
+    let e = entries::read::entry_at(z, img, t, j);
+    let from = e.keyAt;
+    let to = e.keyAt + e.keyLength;
+    super::hits(z, img, &img[from..to], lookup, t, v)
+}
+
+// Whether the search for the key of the full slot j, in its tier t, ends there. The slot itself is not compared with its own key.
+fn ends_at(z: Shape, img: &[u8], s: usize, t: usize, j: usize, lookup: u64) -> bool
+    requires { ⌜ Framed z (length (now img)) × IsTier z t × (j < z .settings .slots) × (slotAt z (now img) t j ≢ 0) × EntryFits z (now img) s t j × (lookup ≡ lookupKey (z .settings) (keyAt z (now img) t j)) ⌝ }
+    ensures { λ r. ⌜ Decides r (seekIn z (now (img .entry)) (keyAt z (now (img .entry)) t j) t ≡ j) ⌝ }
+{
+    let mut cursor = Cursor {
+        slot: entries::keys::start(z.settings, lookup),
+        slots: z.settings.slots,
+    };
+    while cursor.slot != j {
+        let v = layout::read::slot(z, img, t, cursor.slot);
+        if v == 0 {
+            return false;
+        }
+        if entries::keys::slot_key(z.settings, v) == lookup {
+            if same_hit(z, img, s, t, j, v, lookup) {
+                return false;
+            }
+        }
+        cursor = cursor.step();
+    }
+    true
+}
+
 // Whether slot j of tier t is empty, or the search for its key ends at that slot.
 fn lands(z: Shape, img: &[u8], s: usize, t: usize, j: usize) -> bool
-    requires { ⌜ Framed z (length (now img)) × ChainTiers z (now img) × IsTier z t × (j < z .settings .slots) × SlotsFit z (now img) s t ⌝ }
+    requires { ⌜ Framed z (length (now img)) × ChainTiers z (now img) × (s < z .settings .segments) × IsTier z t × (j < z .settings .slots) × SlotsFit z (now img) s t ⌝ }
     ensures { λ r. ⌜ Decides r (slotAt z (now (img .entry)) t j ≢ 0 → Search·search z (now (img .entry)) (keyAt z (now (img .entry)) t j) ≡ Found·At t j) ⌝ }
 {
-    if layout::read::slot(z, img, t, j) == 0 {
+    let v = layout::read::slot(z, img, t, j);
+    if v == 0 {
+        return true;
+    }
+    // the lookup key is the key's: the slot fits
+    let lookup = entries::keys::slot_key(z.settings, v);
+    if !ends_at(z, img, s, t, j, lookup) {
+        return false;
+    }
+    if t == s + 1 {
         return true;
     }
     let e = entries::read::entry_at(z, img, t, j);
     let from = e.keyAt;
     let to = e.keyAt + e.keyLength;
-    let Found::At(u, k) = super::search(z, img, &img[from..to]) else {
-        return false;
-    };
-    if u != t {
-        return false;
-    }
-    if k != j {
-        return false;
-    }
-    true
+    super::comes_to(z, img, &img[from..to], lookup, s, t)
 }
 
 fn tier_lands(z: Shape, img: &[u8], s: usize, t: usize) -> bool
-    requires { ⌜ Framed z (length (now img)) × ChainTiers z (now img) × IsTier z t × SlotsFit z (now img) s t ⌝ }
+    requires { ⌜ Framed z (length (now img)) × ChainTiers z (now img) × (s < z .settings .segments) × IsTier z t × SlotsFit z (now img) s t ⌝ }
     ensures { λ r. ⌜ Decides r (LandsIn z (now (img .entry)) t) ⌝ }
 {
     let mut j = 0;
     while j < z.settings.slots {
+        j = skip_empty(z, img, t, j);
+        if j == z.settings.slots {
+            return true;
+        }
         if !lands(z, img, s, t, j) {
             return false;
         }

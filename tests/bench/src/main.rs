@@ -101,16 +101,19 @@ fn plans() -> [(&'static str, Plan); 5] {
 
 /// The check's time for each entry, as the store grows with its shape the same.
 fn growth() {
-    println!("\n| entries | bytes | check, ns for each entry | of that at 1,000 |\n|-|-|-|-|");
-    let mut first = 0.0;
+    println!("\n| entries | bytes | library, ns an entry | of that at 1,000 | reference, ns an entry | of that at 1,000 |\n|-|-|-|-|-|-|");
+    let mut first = (0.0, 0.0);
     for segments in [1, 8, 64, 256] {
         let s = store(Plan { segments, slots: 2_048, chunks: 1_024, chunk_size: 16, entries: 1_000.min(200_000 / segments) });
-        let (a, _) = both(if segments > 16 { 15 } else { 60 }, 1, |_| seen(chronicle_map::check(&s.block, &s.image)), |_| ());
-        let each = a * 1e9 / s.keys.len() as f64;
+        let rounds = if segments > 16 { 15 } else { 60 };
+        let ours = |_| seen(chronicle_map::check(&s.block, &s.image));
+        let (a, b) = both(rounds, 1, ours, |_| seen(reference::check(&s.block, &s.image)));
+        let each = 1e9 / s.keys.len() as f64;
         if segments == 1 {
-            first = each;
+            first = (a * each, b * each);
         }
-        println!("| {} | {} | {each:.1} | {:.2} |", s.keys.len(), s.image.len(), each / first);
+        let (x, y) = (a * each, b * each);
+        println!("| {} | {} | {x:.1} | {:.2} | {y:.1} | {:.2} |", s.keys.len(), s.image.len(), x / first.0, y / first.1);
     }
 }
 

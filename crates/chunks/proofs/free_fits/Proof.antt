@@ -6,7 +6,7 @@ use Rattle.layout.specs.Tiers.{tiers}
 use Rattle.chains.specs.Chains.{follow}
 use Rattle.chains.proofs.Along.{free-tiers}
 use Rattle.chunks.proofs.Through.{through-in, through-less, through-lost, through-all}
-use Rattle.chunks.proofs.Sums.{Freeing, free-starts, free-turns, free-right, free-marked}
+use Rattle.chunks.proofs.Sums.{Freeing, free-starts, free-turns}
 use Rattle.chunks.proofs.free_fits.Statement.{statement}
 use Rattle.chunks.proofs.free_fits.Tie as tie
 
@@ -28,11 +28,11 @@ slots-empty-requires c κs = (c .before .before .before .before .pre .0, free-ti
 returns : tie.Need-returns Inv-loop μ-loop
 returns c = through-lost (c .before .before .before .before .before .before .args .z) (c .before .before .before .before .before .before .args .img .now) (c .before .before .before .loop .inv .1) (c .before .before .loop-test .taken) (λ f. decided-false (c .before .slots-empty .result) (c .before .slots-empty .ensures) (not-true _ (c .if1 .taken)) (f .slotsEmpty))
 
-marked-in-requires : tie.Need-marked-in-requires Inv-loop μ-loop
-marked-in-requires c κs = (c .before .before .before .before .before .before .pre .0, free-tiers (c .before .before .before .before .before .before .args .z) (c .before .before .before .before .before .before .args .img .now) (c .before .before .before .before .before .before .pre .1) _ (through-in (c .before .before .before .before .before .before .args .z) (c .before .before .before .before .before .before .args .img .now) (c .before .before .before .loop .inv .1) (c .before .before .loop-test .taken)))
+all-clear-requires : tie.Need-all-clear-requires Inv-loop μ-loop
+all-clear-requires c κs = (c .before .before .before .before .before .before .pre .0, free-tiers (c .before .before .before .before .before .before .args .z) (c .before .before .before .before .before .before .args .img .now) (c .before .before .before .before .before .before .pre .1) _ (through-in (c .before .before .before .before .before .before .args .z) (c .before .before .before .before .before .before .args .img .now) (c .before .before .before .loop .inv .1) (c .before .before .loop-test .taken)))
 
 returns-2 : tie.Need-returns-2 Inv-loop μ-loop
-returns-2 c = through-lost (c .before .before .before .before .before .before .before .before .args .z) (c .before .before .before .before .before .before .before .before .args .img .now) (c .before .before .before .before .before .loop .inv .1) (c .before .before .before .before .loop-test .taken) (free-marked (c .before .before .before .before .before .before .before .before .args .z) (c .before .before .before .before .before .before .before .before .args .img .now) (c .before .marked-in .ensures) (c .if2 .taken))
+returns-2 c = through-lost (c .before .before .before .before .before .before .before .before .args .z) (c .before .before .before .before .before .before .before .before .args .img .now) (c .before .before .before .before .before .loop .inv .1) (c .before .before .before .before .loop-test .taken) (λ f. decided-false (c .before .all-clear .result) (c .before .all-clear .ensures) (not-true _ (c .if2 .taken)) (f .chunksClear))
 
 next-of-requires : tie.Need-next-of-requires Inv-loop μ-loop
 next-of-requires c κs = (c .before .before .before .before .before .before .before .before .pre .0, free-tiers (c .before .before .before .before .before .before .before .before .args .z) (c .before .before .before .before .before .before .before .before .args .img .now) (c .before .before .before .before .before .before .before .before .pre .1) _ (through-in (c .before .before .before .before .before .before .before .before .args .z) (c .before .before .before .before .before .before .before .before .args .img .now) (c .before .before .before .before .before .loop .inv .1) (c .before .before .before .before .loop-test .taken)))
@@ -41,7 +41,7 @@ loop-less : tie.Need-loop-less Inv-loop μ-loop
 loop-less c = through-less (c .before .before .before .before .before .before .before .before .before .args .z) (c .before .before .before .before .before .before .before .before .before .args .img .now) (c .before .before .before .before .before .before .loop .inv .1) (c .before .before .before .before .before .loop-test .taken) (c .next-of .ensures)
 
 loop-again : tie.Need-loop-again Inv-loop μ-loop
-loop-again c = free-turns (c .before .before .before .before .before .before .before .before .before .args .z) (c .before .before .before .before .before .before .before .before .before .args .img .now) (c .before .before .before .before .before .before .loop .inv) (c .before .before .before .before .before .loop-test .taken) (free-right (c .before .before .before .before .before .before .before .before .before .args .z) (c .before .before .before .before .before .before .before .before .before .args .img .now) (decided-true (c .before .before .before .before .slots-empty .result) (c .before .before .before .before .slots-empty .ensures) (not-false _ (c .before .before .before .if1 .left))) (c .before .before .marked-in .ensures) (c .before .if2 .left)) (c .next-of .ensures)
+loop-again c = free-turns (c .before .before .before .before .before .before .before .before .before .args .z) (c .before .before .before .before .before .before .before .before .before .args .img .now) (c .before .before .before .before .before .before .loop .inv) (c .before .before .before .before .before .loop-test .taken) (record { slotsEmpty = decided-true (c .before .before .before .before .slots-empty .result) (c .before .before .before .before .slots-empty .ensures) (not-false _ (c .before .before .before .if1 .left)); chunksClear = decided-true (c .before .before .all-clear .result) (c .before .before .all-clear .ensures) (not-false _ (c .before .if2 .left)) }) (c .next-of .ensures)
 
 returns-3 : tie.Need-returns-3 Inv-loop μ-loop
 returns-3 c = through-all (c .before .before .before .before .args .z) (c .before .before .before .before .args .img .now) (c .before .loop .inv .1) (c .loop-test .left)
@@ -56,7 +56,7 @@ free-fits-spec =
     loop-holds
     slots-empty-requires
     returns
-    marked-in-requires
+    all-clear-requires
     returns-2
     next-of-requires
     loop-less

@@ -16,8 +16,11 @@ Inv-loop z img t i₀ i = (i ≤ z .settings .chunks) × Below i (λ k. mark z i
 abbrev μ-loop : tie.MeasureT-loop
 μ-loop z img t i₀ i = z .settings .chunks - i
 
+marked-bytes-requires : tie.Need-marked-bytes-requires Inv-loop μ-loop
+marked-bytes-requires c κs = search needs
+
 loop-holds : tie.Need-loop-holds Inv-loop μ-loop
-loop-holds c = search needs
+loop-holds c = c .marked-bytes .ensures
 
 mark-requires : tie.Need-mark-requires Inv-loop μ-loop
 mark-requires c κs = search needs
@@ -35,7 +38,7 @@ loop-again : tie.Need-loop-again Inv-loop μ-loop
 loop-again c = (search needs, below-more _ _ (c .before .before .before .before .loop .inv .1) (λ e. c .if2 .left (c .before .mark .ensures .0 ∙ e)))
 
 returns-2 : tie.Need-returns-2 Inv-loop μ-loop
-returns-2 c = let e : c .before .before .loop .i ≡ c .before .before .before .before .args .z .settings .chunks = omega arith in rw e (lowest-none _ _ _ (λ k h. c .before .before .loop .inv .1 k (omega arith)))
+returns-2 c = let e : c .before .before .loop .i ≡ c .before .before .before .before .before .args .z .settings .chunks = omega arith in rw e (lowest-none _ _ _ (λ k h. c .before .before .loop .inv .1 k (omega arith)))
 
 pub lowest-clear-spec : {M : Type 1} → statement M
 lowest-clear-spec =
@@ -43,6 +46,7 @@ lowest-clear-spec =
     (tie.spec
     Inv-loop
     μ-loop
+    marked-bytes-requires
     loop-holds
     mark-requires
     returns

@@ -31,7 +31,7 @@ returns : tie.Need-returns Inv-loop μ-loop
 returns c = chain-ends (c .before .before .before .before .before .args .z) (c .before .before .before .before .before .args .img .now) (LandsIn (c .before .before .before .before .before .args .z) (c .before .before .before .before .before .args .img .now)) (c .before .before .before .before .before .args .s) (c .before .before .loop .inv) (c .if1 .taken)
 
 tier-lands-requires : tie.Need-tier-lands-requires Inv-loop μ-loop
-tier-lands-requires c κs = (c .before .before .before .before .before .pre .0, c .before .before .before .before .before .pre .1, chain-tier (c .before .before .before .before .before .args .z) (c .before .before .before .before .before .args .img .now) (LandsIn (c .before .before .before .before .before .args .z) (c .before .before .before .before .before .args .img .now)) (c .before .before .before .before .before .args .s) (c .before .before .loop .inv) (c .before .loop-test .taken) (c .if1 .left), c .before .before .before .before .before .pre .3 (c .before .before .loop .t) (chain-member (c .before .before .before .before .before .args .z) (c .before .before .before .before .before .args .img .now) (LandsIn (c .before .before .before .before .before .args .z) (c .before .before .before .before .before .args .img .now)) (c .before .before .before .before .before .args .s) (c .before .before .loop .inv) (c .before .loop-test .taken) (c .if1 .left)))
+tier-lands-requires c κs = (c .before .before .before .before .before .pre .0, c .before .before .before .before .before .pre .1, c .before .before .before .before .before .pre .2, chain-tier (c .before .before .before .before .before .args .z) (c .before .before .before .before .before .args .img .now) (LandsIn (c .before .before .before .before .before .args .z) (c .before .before .before .before .before .args .img .now)) (c .before .before .before .before .before .args .s) (c .before .before .loop .inv) (c .before .loop-test .taken) (c .if1 .left), c .before .before .before .before .before .pre .3 (c .before .before .loop .t) (chain-member (c .before .before .before .before .before .args .z) (c .before .before .before .before .before .args .img .now) (LandsIn (c .before .before .before .before .before .args .z) (c .before .before .before .before .before .args .img .now)) (c .before .before .before .before .before .args .s) (c .before .before .loop .inv) (c .before .loop-test .taken) (c .if1 .left)))
 
 returns-2 : tie.Need-returns-2 Inv-loop μ-loop
 returns-2 c = chain-wrong (c .before .before .before .before .before .before .before .args .z) (c .before .before .before .before .before .before .before .args .img .now) (LandsIn (c .before .before .before .before .before .before .before .args .z) (c .before .before .before .before .before .before .before .args .img .now)) (c .before .before .before .before .before .before .before .args .s) (c .before .before .before .before .loop .inv) (c .before .before .before .loop-test .taken) (c .before .before .if1 .left) (decided-false (c .before .tier-lands .result) (c .before .tier-lands .ensures) (not-true _ (c .if2 .taken)))

@@ -1,0 +1,54 @@
+use native.Mathlib.Omega.{arith}
+use borrow.Author.Count.{below-more}
+use mathlib.Core.Path.{sym, _∙_, _≡_}
+use Prim.Native.Nat.{_≤_, _-_}
+use Rattle.lists.specs.Quantify.{Below}
+use Rattle.layout.specs.Places.{mark}
+use borrow.Author.Needs.{needs}
+use Rattle.chunks.proofs.all_clear.Statement.{statement}
+use Rattle.chunks.proofs.all_clear.Tie as tie
+
+abbrev Inv-loop : tie.InvT-loop
+Inv-loop z img t i₀ i = (i ≤ z .settings .chunks) × Below i (λ k. mark z img t k ≡ 0)
+
+abbrev μ-loop : tie.MeasureT-loop
+μ-loop z img t i₀ i = z .settings .chunks - i
+
+clear-bytes-requires : tie.Need-clear-bytes-requires Inv-loop μ-loop
+clear-bytes-requires c κs = search needs
+
+loop-holds : tie.Need-loop-holds Inv-loop μ-loop
+loop-holds c = c .clear-bytes .ensures
+
+mark-requires : tie.Need-mark-requires Inv-loop μ-loop
+mark-requires c κs = search needs
+
+returns : tie.Need-returns Inv-loop μ-loop
+returns c = λ f. c .if2 .taken (c .before .mark .ensures .0 ∙ f (c .before .before .before .before .loop .i) (omega arith))
+
+add-i : tie.Need-add-i Inv-loop μ-loop
+add-i c = search needs
+
+loop-less : tie.Need-loop-less Inv-loop μ-loop
+loop-less c = search needs
+
+loop-again : tie.Need-loop-again Inv-loop μ-loop
+loop-again c = (search needs, below-more _ _ (c .before .before .before .before .loop .inv .1) (sym (c .before .mark .ensures .0) ∙ c .if2 .left))
+
+returns-2 : tie.Need-returns-2 Inv-loop μ-loop
+returns-2 c = λ k h. c .before .before .loop .inv .1 k (omega arith)
+
+pub all-clear-spec : {M : Type 1} → statement M
+all-clear-spec =
+    tie.close
+    (tie.spec
+    Inv-loop
+    μ-loop
+    clear-bytes-requires
+    loop-holds
+    mark-requires
+    returns
+    add-i
+    loop-less
+    loop-again
+    returns-2)

@@ -1,0 +1,58 @@
+use native.Mathlib.Omega.{arith}
+use mathlib.Core.Path.{_≡_}
+use mathlib.Core.Logic.{_≢_}
+use Prim.Native.Nat.{_*_, _/_, _-_}
+use Rattle.layout.specs.Places.{mark}
+use Rattle.chunks.proofs.Eights.{Whole, whole-starts, whole-room, whole-turns, whole-inside, ones-marked}
+use borrow.Author.Needs.{needs}
+use Rattle.chunks.proofs.marked_bytes.Statement.{statement}
+use Rattle.chunks.proofs.marked_bytes.Tie as tie
+
+abbrev Inv-loop : tie.InvT-loop
+Inv-loop z img t at whole i₀ i = (whole ≡ z .settings .chunks / 8 * 8) × Whole (z .settings .chunks) i (λ k. mark z img t k ≢ 0)
+
+abbrev μ-loop : tie.MeasureT-loop
+μ-loop z img t at whole i₀ i = whole - i
+
+free-list-at-requires : tie.Need-free-list-at-requires Inv-loop μ-loop
+free-list-at-requires c κs = search needs
+
+mul-whole : tie.Need-mul-whole Inv-loop μ-loop
+mul-whole c = search needs
+
+loop-holds : tie.Need-loop-holds Inv-loop μ-loop
+loop-holds c = (search needs, whole-starts _ _)
+
+byte-of-requires : tie.Need-byte-of-requires Inv-loop μ-loop
+byte-of-requires c κs = (c .before .before .before .before .before .pre .0, c .before .before .before .before .before .pre .1, c .before .before .before .free-list-at .ensures, whole-room (c .before .loop .inv .1) (omega (arith, c .before .loop .inv .0)) .0, c .before .loop .inv .1 .even)
+
+returns : tie.Need-returns Inv-loop μ-loop
+returns c = whole-inside (c .before .before .before .loop .inv .1)
+
+add-i : tie.Need-add-i Inv-loop μ-loop
+add-i c = omega (arith, c .before .before .before .loop .inv .0, c .before .before .before .before .before .before .before .pre .0 .valid .chunks .1)
+
+loop-less : tie.Need-loop-less Inv-loop μ-loop
+loop-less c = search needs
+
+loop-again : tie.Need-loop-again Inv-loop μ-loop
+loop-again c = (c .before .before .before .loop .inv .0, whole-turns (c .before .before .before .loop .inv .1) (omega (arith, c .before .before .before .loop .inv .0)) (ones-marked (c .before .before .before .before .before .before .before .args .z) (c .before .before .before .before .before .before .before .args .img .now) (c .before .before .before .before .before .before .before .args .t) (c .before .before .before .loop .i) _ (c .before .byte-of .ensures) (c .if1 .left)))
+
+returns-2 : tie.Need-returns-2 Inv-loop μ-loop
+returns-2 c = whole-inside (c .before .loop .inv .1)
+
+pub marked-bytes-spec : {M : Type 1} → statement M
+marked-bytes-spec =
+    tie.close
+    (tie.spec
+    Inv-loop
+    μ-loop
+    free-list-at-requires
+    mul-whole
+    loop-holds
+    byte-of-requires
+    returns
+    add-i
+    loop-less
+    loop-again
+    returns-2)
