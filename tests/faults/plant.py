@@ -117,9 +117,9 @@ def prepare():
         os.makedirs(target, exist_ok=True)
         shutil.copytree(os.path.join(ROOT, source, "src"), os.path.join(target, "src"))
         shutil.copy(os.path.join(ROOT, source, "Cargo.toml"), target)
-    shutil.copy(os.path.join(ROOT, "differential", "build.rs"), os.path.join(WORK, "differential"))
     edit("faulty/Cargo.toml", 'name = "reference"', 'name = "faulty"')
     edit("differential/Cargo.toml", 'path = "../reference" }', 'path = "%s/reference" }\nfaulty = { path = "../faulty" }' % ROOT)
+    edit("differential/Cargo.toml", "../../bindings/rust", os.path.join(REPOSITORY, "bindings/rust"))
     edit("differential/src/subject.rs", "pub use reference::", "pub use faulty::")
 
 def edit(name, old, new):
@@ -133,7 +133,7 @@ def run_one(file, old, new):
     path = os.path.join(WORK, "faulty/src", file)
     before = edit("faulty/src/" + file, old, new)
     try:
-        build = subprocess.run(["cargo", "build", "--release", "-j1", "--offline", "--features", "self-test"],
+        build = subprocess.run(["cargo", "build", "--release", "-j1", "--offline", "--no-default-features", "--features", "self-test"],
                                cwd=os.path.join(WORK, "differential"), capture_output=True, text=True)
         if build.returncode:
             return "does not build: " + build.stderr[-900:]

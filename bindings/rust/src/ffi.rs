@@ -52,6 +52,7 @@ mod c {
     }
 }
 
+/// The check: its number; the counts are live entries, marked chunks, chained tiers, free tiers.
 pub fn check(block: &[u8], image: &[u8], counts: &mut [u64; 4]) -> u32 {
     // SAFETY: the parameters' types say all that the C function asks (see above).
     unsafe {
@@ -65,6 +66,7 @@ pub fn check(block: &[u8], image: &[u8], counts: &mut [u64; 4]) -> u32 {
     }
 }
 
+/// A lookup: its number; the place is the record's offset and length.
 pub fn lookup(block: &[u8], image: &[u8], key: &[u8], place: &mut [u64; 2]) -> u32 {
     // SAFETY: as in `check`.
     unsafe {
@@ -80,6 +82,7 @@ pub fn lookup(block: &[u8], image: &[u8], key: &[u8], place: &mut [u64; 2]) -> u
     }
 }
 
+/// A store: its number.
 pub fn store(block: &[u8], image: &mut [u8], key: &[u8], value: &[u8]) -> u32 {
     // SAFETY: as in `check`.
     unsafe {
@@ -96,6 +99,7 @@ pub fn store(block: &[u8], image: &mut [u8], key: &[u8], value: &[u8]) -> u32 {
     }
 }
 
+/// A removal: its number.
 pub fn remove(block: &[u8], image: &mut [u8], key: &[u8]) -> u32 {
     // SAFETY: as in `check`.
     unsafe {
@@ -110,6 +114,7 @@ pub fn remove(block: &[u8], image: &mut [u8], key: &[u8]) -> u32 {
     }
 }
 
+/// The n-th entry: its number; the row is a lister line's seven numbers.
 pub fn entry(block: &[u8], image: &[u8], n: u64, row: &mut [u64; 7]) -> u32 {
     // SAFETY: as in `check`.
     unsafe {
@@ -124,6 +129,7 @@ pub fn entry(block: &[u8], image: &[u8], n: u64, row: &mut [u64; 7]) -> u32 {
     }
 }
 
+/// XXH64 of some bytes, seed 0.
 pub fn xxh64(bytes: &[u8]) -> u64 {
     // SAFETY: as in `check`.
     unsafe { c::chronicle_map_xxh64(bytes.as_ptr(), bytes.len()) }

@@ -21,7 +21,7 @@ use std::fmt;
 use std::ops::Range;
 
 #[allow(unsafe_code)]
-mod ffi;
+pub mod ffi;
 
 /// Why a call refuses: the lowest that applies, in this order.
 #[derive(Clone, Copy, Debug, PartialEq, Eq, Hash)]

@@ -1,7 +1,7 @@
 //! Compares the library under test with the reference, call by call, on
 //! generated images and histories. Exits 1 on the first difference.
 
-#![deny(unsafe_code)]
+#![forbid(unsafe_code)]
 
 mod blocks;
 mod cases;
@@ -9,8 +9,6 @@ mod compare;
 mod damage;
 mod defects;
 mod draw;
-#[cfg(not(feature = "self-test"))]
-mod ffi;
 mod history;
 mod model;
 mod oracle;

@@ -8,8 +8,8 @@ pub use library::{check, entry, lookup, remove, store, xxh64};
 
 #[cfg(not(feature = "self-test"))]
 mod library {
-    use crate::ffi;
-    pub use crate::ffi::{remove, store, xxh64};
+    use chronicle_map::ffi;
+    pub use chronicle_map::ffi::{remove, store, xxh64};
 
     /// Stands in every number before a call: one that the library forgets
     /// to write shows.
