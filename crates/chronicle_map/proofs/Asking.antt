@@ -19,7 +19,7 @@ use Rattle.image.specs.declared.Examined.{Examined}
 use Rattle.image.specs.declared.Examined.the-variants.{Ready, Refused}
 use Rattle.image.specs.Check.{examine}
 use Rattle.image.proofs.Ready.{ready-framed}
-use Rattle.chronicle_map.specs.Asked.{Given, aKey, anEntry, ValueFits, GivenKeyFits, givenKeyFits?, GivenValueFits, givenValueFits?, afterValue, afterKey, afterExamined, asked}
+use Rattle.chronicle_map.specs.Asked.{Given, nothing, aKey, anEntry, ValueFits, GivenKeyFits, givenKeyFits?, GivenValueFits, givenValueFits?, afterValue, afterKey, afterExamined, asked}
 use Rattle.chronicle_map.proofs.Accepting.{ready-holds}
 
 never : {P : Type 0} {s : Stage} {z : Shape} {c : Counts} → Refused s ≡ Ready z c → P
@@ -47,6 +47,17 @@ module _ (z : Shape) (c : Counts) (g : Given) where
   unfolding afterValue
   value-yes (no n) v = absurd (n v)
   value-yes (yes _) v = refl
+
+-- ---- nothing is given: the check and the list
+
+nothing-by : (x : Examined) → afterExamined nothing x ≡ x
+unfolding afterExamined afterKey afterValue givenKeyFits? givenValueFits?
+nothing-by (Refused s) = refl
+nothing-by (Ready z c) = refl
+
+pub asked-nothing : (block img : List ℕ) → asked block img nothing ≡ examine block img
+unfolding asked
+asked-nothing block img = nothing-by (examine block img)
 
 -- ---- a key is given
 

@@ -17,7 +17,8 @@ use Rattle.chains.proofs.Follow.{length-follow}
 use Rattle.joining.specs.Joining.{lastTier}
 use Rattle.upkeep.proofs.Chained.{chain-segment, free-not-chained, chain-in-tiers}
 use Rattle.upkeep.proofs.Counts.{chain-short}
-use Rattle.joining.proofs.Following.{enough, follow-same, Longer, follow-longer}
+use Rattle.joining.proofs.Following.{enough, Longer, follow-longer}
+use Rattle.upkeep.proofs.AgreeChains.{follow-same}
 use Rattle.joining.proofs.Ends.{last-in, last-next, is-last, some-tiers, free-cons, rest-ends, new-extra, not-new}
 use Rattle.lists.proofs.Counted.{member-met}
 use Rattle.joining.proofs.Writes.{Joins}

@@ -19,20 +19,15 @@ use Rattle.chains.proofs.Segments.{segments-le, chain-cons}
 use Rattle.joining.specs.Joining.{lastTier, join}
 use Rattle.upkeep.proofs.Chained.{free-not-chained, chain-in-tiers}
 use Rattle.upkeep.proofs.Counts.{extras-number}
+use Rattle.joining.proofs.EndOfChain.{chain-some, last-tier}
 use Rattle.joining.proofs.Following.{follow-long, last-ends, ends-last}
 use Rattle.joining.proofs.Writes.{Joins, joins}
 
 module _ (z : Shape) (img : List ℕ) (s : ℕ) (hs : s < z .settings .segments) (fits : ChainsFit z img) where
   -- ---- the last tier of the chain
 
-  pub chain-long : 0 < length (chain z img s)
-  chain-long = rw (chain-cons z img s hs) (omega arith)
-
   pub last-in : List·Memᴰ (lastTier z img s) (chain z img s)
-  last-in = let h : 0 < length (chain z img s) = chain-long in member (chain z img s) (length (chain z img s) - 1) (omega arith)
-
-  pub last-tier : IsTier z (lastTier z img s)
-  last-tier = chain-in-tiers z img fits s (lastTier z img s) hs last-in
+  last-in = let h : 0 < length (chain z img s) = chain-some z img s hs in member (chain z img s) (length (chain z img s) - 1) (omega arith)
 
   pub last-next : nextOf z img (lastTier z img s) ≡ 0
   unfolding chain
@@ -96,9 +91,9 @@ module _ (z : Shape) (img : List ℕ) (s : ℕ) (hs : s < z .settings .segments)
     join-joins im =
         let c : tiers z ≤ 1024 = im .framed .tierCount in
         let t : IsTier z (freeHead z img) = new-tier in
-        let l : IsTier z (lastTier z img s) = last-tier in
+        let l : IsTier z (lastTier z img s) = last-tier z img s hs (λ u m. chain-in-tiers z img fits s u hs m) in
         let g : z .settings .segments ≤ tiers z = segments-le z img in
         let n : length (chain z img s) ≤ tiers z = length-follow z img (tiers z) (suc s) in
         joins im s (freeHead z img) (lastTier z img s) (nextOf z img (freeHead z img)) (suc (get z img (global usedTiers))) (length (chain z img s))
-        new-tier last-tier (not-new s (lastTier z img s) hs last-in) refl refl
+        new-tier (last-tier z img s hs (λ u m. chain-in-tiers z img fits s u hs m)) (not-new s (lastTier z img s) hs last-in) refl refl
         (omega arith) (omega (arith, next-small)) (omega (arith, used-small)) (omega arith) (omega arith) (omega arith)

@@ -19,7 +19,8 @@ use Rattle.chains.specs.Chains.{chain, freeHead, freeChain, chained, chainedExt
 use Rattle.joining.specs.Joining.{lastTier}
 use Rattle.upkeep.proofs.Chained.{chain-in-tiers}
 use Rattle.joining.proofs.Following.{lastOf, last-cons}
-use Rattle.joining.proofs.Ends.{chain-long, free-cons, new-extra, not-new}
+use Rattle.joining.proofs.EndOfChain.{chain-some}
+use Rattle.joining.proofs.Ends.{free-cons, new-extra, not-new}
 use Rattle.joining.proofs.Adding.{parts-longer}
 use Rattle.joining.proofs.Chains.{others, others-free, other-chain, other-ends, longer-chain, longer-ends, shorter-free, free-ends}
 use Rattle.joining.proofs.Writes.{Joins}
@@ -47,7 +48,7 @@ module _ (z : Shape) (img : List ℕ) (s : ℕ) (hs : s < z .settings .segments)
     unfolding chainedExtra
     extras-longer =
         parts-longer m adds (λ q. drop 1 (chain z img q)) (λ q. drop 1 (chain z img′ q)) s (freeHead z img)
-        (ap (drop 1) (longer-chain z img s hs fits ne img′ j) ∙ drop-append (chain z img s) (freeHead z img ∷ []) (chain-long z img s hs fits))
+        (ap (drop 1) (longer-chain z img s hs fits ne img′ j) ∙ drop-append (chain z img s) (freeHead z img ∷ []) (chain-some z img s hs))
         (z .settings .segments) hs
         (λ q hq nq. ap (drop 1) (other-chain z img s hs fits ne img′ j q hq nq))
 
@@ -77,7 +78,7 @@ module _ (z : Shape) (img : List ℕ) (s : ℕ) (hs : s < z .settings .segments)
       ⊎-elim
       (λ (e : i ≡ length c).
       let a : getD (c ++ (t ∷ [])) i 0 ≡ t = rw e (getD-append-seam c t [] 0) in
-      let d : getD (0 ∷ (c ++ (t ∷ []))) i 0 ≡ lastTier z img s = b ∙ rw e (before-last 0 c (chain-long z img s hs fits)) in
+      let d : getD (0 ∷ (c ++ (t ∷ []))) i 0 ≡ lastTier z img s = b ∙ rw e (before-last 0 c (chain-some z img s hs)) in
       subst₂ (StandsAt z img′ s i) (sym a) (sym d) (record { segmentIs = j .segmentNew; orderIs = j .orderNew ∙ sym e; previousIs = j .previousNew }))
       (λ (e : i ≢ length c).
       let k : i < length c = omega arith in
@@ -88,7 +89,7 @@ module _ (z : Shape) (img : List ℕ) (s : ℕ) (hs : s < z .settings .segments)
 
   extras-new : Every (drop 1 (chain z img s ++ (freeHead z img ∷ []))) (IsExtra z)
   extras-new =
-      rw (drop-append (chain z img s) (freeHead z img ∷ []) (chain-long z img s hs fits))
+      rw (drop-append (chain z img s) (freeHead z img ∷ []) (chain-some z img s hs))
       (λ u m.
       ⊎-elim
       (λ k. fits .segmentsFit s hs .extras u k)

@@ -84,24 +84,6 @@ module _ (z : Shape) (img : List ℕ) where
 -- ---- two images
 
 module _ (z : Shape) (img img′ : List ℕ) where
-  -- the links agree
-  pub follow-same : (n x : ℕ) → Every (follow z img n x) (λ u. nextOf z img′ u ≡ nextOf z img u)
-      → (follow z img′ n x ≡ follow z img n x) × (endOf z img′ n x ≡ endOf z img n x)
-  unfolding follow endOf
-  follow-same zero x f = (refl, refl)
-  follow-same (suc n) x f =
-      ⊎-elim
-      (λ (q : x ≡ 0). rw q (refl, refl))
-      (λ (ne : x ≢ 0).
-      let g : Every (x ∷ follow z img n (nextOf z img x)) (λ u. nextOf z img′ u ≡ nextOf z img u) = rw (follow-more z img n x ne) at f in
-      let e : nextOf z img′ x ≡ nextOf z img x = g x (List·Memᴰ·head refl) in
-      let r : (follow z img′ n (nextOf z img x) ≡ follow z img n (nextOf z img x)) × (endOf z img′ n (nextOf z img x) ≡ endOf z img n (nextOf z img x)) =
-      follow-same n (nextOf z img x) (λ u m. g u (List·Memᴰ·tail m)) in (
-        follow-more z img′ n x ne ∙ ap (λ (y : ℕ). x ∷ follow z img′ n y) e ∙ ap (λ (q : List ℕ). x ∷ q) (r .0) ∙ sym (follow-more z img n x ne),
-        end-more z img′ n x ne ∙ ap (endOf z img′ n) e ∙ r .1 ∙ sym (end-more z img n x ne),
-      ))
-      (same-or x 0)
-
   -- the links agree but for the last, after which t comes, and no other after that
   pub record Longer (t u : ℕ) : Type 0 where
     pub inner : nextOf z img u ≢ 0 → nextOf z img′ u ≡ nextOf z img u

@@ -30,13 +30,13 @@ pub record SameChains (z : Shape) (img img′ : List ℕ) : Type 0 where
 
 module _ (z : Shape) (img img′ : List ℕ) where
   -- and the same index after those
-  abbrev SameWalk : ℕ → ℕ → Type 0
+  abbrev pub SameWalk : ℕ → ℕ → Type 0
   SameWalk n t = (follow z img′ n t ≡ follow z img n t) × (endOf z img′ n t ≡ endOf z img n t)
 
-  same-walk : (n t : ℕ) → Every (follow z img n t) (λ u. nextOf z img′ u ≡ nextOf z img u) → SameWalk n t
+  pub follow-same : (n t : ℕ) → Every (follow z img n t) (λ u. nextOf z img′ u ≡ nextOf z img u) → SameWalk n t
   unfolding follow
-  same-walk zero t e = (refl, end-out z img′ t ∙ sym (end-out z img t))
-  same-walk (suc n) t e =
+  follow-same zero t e = (refl, end-out z img′ t ∙ sym (end-out z img t))
+  follow-same (suc n) t e =
       ⊎-elim
       (λ (h : t ≡ 0).
       rw h
@@ -44,7 +44,7 @@ module _ (z : Shape) (img img′ : List ℕ) where
       (λ (h : t ≢ 0).
       let f : Every (t ∷ follow z img n (nextOf z img t)) (λ u. nextOf z img′ u ≡ nextOf z img u) = rw (follow-more z img n t h) at e in
       let next : nextOf z img′ t ≡ nextOf z img t = f t (List·Memᴰ·head refl) in
-      let r : SameWalk n (nextOf z img t) = same-walk n (nextOf z img t) (λ u m. f u (List·Memᴰ·tail m)) in (
+      let r : SameWalk n (nextOf z img t) = follow-same n (nextOf z img t) (λ u m. f u (List·Memᴰ·tail m)) in (
         follow-more z img′ n t h
             ∙ ap (λ (u : ℕ). t ∷ follow z img′ n u) next
             ∙ ap (λ (l : List ℕ). t ∷ l) (r .0)
@@ -62,11 +62,11 @@ module _ (z : Shape) (img img′ : List ℕ) (fits : ChainsFit z img) (same : Sa
 
   chain-walk : (s : ℕ) → s < segments → SameWalk z img img′ (tiers z) (suc s)
   unfolding chain
-  chain-walk s h = same-walk z img img′ (tiers z) (suc s) (λ u m. same .nexts u (tiers-of s h u m))
+  chain-walk s h = follow-same z img img′ (tiers z) (suc s) (λ u m. same .nexts u (tiers-of s h u m))
 
   free-walk : SameWalk z img img′ (tiers z) (freeHead z img)
   unfolding freeChain
-  free-walk = same-walk z img img′ (tiers z) (freeHead z img) (λ u m. same .nexts u (free-tiers z img (fits .freeFits) u m))
+  free-walk = follow-same z img img′ (tiers z) (freeHead z img) (λ u m. same .nexts u (free-tiers z img (fits .freeFits) u m))
 
   pub same-chain : (s : ℕ) → s < z .settings .segments → chain z img′ s ≡ chain z img s
   unfolding chain

@@ -78,8 +78,8 @@ module _ (z : Shape) (img : List ℕ) (u c : ℕ) where
   unfolding chunksFor
   chunks-hold e w = ceil-enough (entrySize settings (e .keyLength) (e .valueLength)) chunkSize (size-pos e w)
 
-  whole-inside : (e : Entry) → WholeAt z img u c e → c + chunksFor settings (e .keyLength) (e .valueLength) ≤ chunks → Inside z u e
-  whole-inside e w h =
+  whole-in-chunks : (e : Entry) → WholeAt z img u c e → c + chunksFor settings (e .keyLength) (e .valueLength) ≤ chunks → Inside z u e
+  whole-in-chunks e w h =
       let end : chunkAt z u c + chunksFor settings (e .keyLength) (e .valueLength) * chunkSize ≤ chunkAt z u chunks =
       rw (← chunk-add z u c (chunksFor settings (e .keyLength) (e .valueLength))) (chunk-inside z u _ h) in
       record {
@@ -90,7 +90,7 @@ module _ (z : Shape) (img : List ℕ) (u c : ℕ) where
       }
 
   stored-inside : (r : Stored) → stored z img u c ≡ r → IsWhole r → c + chunksFor settings (entryOf r .keyLength) (entryOf r .valueLength) ≤ chunks → Inside z u (entryOf r)
-  stored-inside (Whole e) q w h = whole-inside e (whole-sound z img u c e q) h
+  stored-inside (Whole e) q w h = whole-in-chunks e (whole-sound z img u c e q) h
   stored-inside Broken q w h = absurd w
 
 module _ (z : Shape) (img img′ : List ℕ) (u : ℕ) where

@@ -102,11 +102,11 @@ module _ (z : Shape) (img : List ℕ) where
   -- ---- what one entry needs
 
   -- key and value stand within the image
-  pub whole-inside : (t c : ℕ) → Image z img → IsTier z t → (r : Stored) → stored z img t c ≡ r → IsWhole r
+  pub whole-in-image : (t c : ℕ) → Image z img → IsTier z t → (r : Stored) → stored z img t c ≡ r → IsWhole r
       → c + chunksFor settings (entryOf r .keyLength) (entryOf r .valueLength) ≤ chunks
       → (entryOf r .keyAt + entryOf r .keyLength ≤ length img) × (entryOf r .valueAt + entryOf r .valueLength ≤ length img)
-  whole-inside t c im it Broken e w h = absurd w
-  whole-inside t c im it (Whole x) e w h =
+  whole-in-image t c im it Broken e w h = absurd w
+  whole-in-image t c im it (Whole x) e w h =
       let a : WholeAt z img t c x = whole-sound z img t c x e in
       let n : ℕ = c + chunksFor settings (x .keyLength) (x .valueLength) in (
         key-in-image z img t c a (im .framed) it,
@@ -117,7 +117,7 @@ module _ (z : Shape) (img : List ℕ) where
   module _ (s t j : ℕ) (im : Image z img) (it : IsTier z t) (f : EntryFits z img s t j) where
     pub entry-inside : (entryAt z img t j .keyAt + entryAt z img t j .keyLength ≤ length img) × (entryAt z img t j .valueAt + entryAt z img t j .valueLength ≤ length img)
     unfolding entryAt
-    entry-inside = whole-inside t (chunkOf z img t j) im it (stored z img t (chunkOf z img t j)) refl (f .whole) (f .rangeEnds)
+    entry-inside = whole-in-image t (chunkOf z img t j) im it (stored z img t (chunkOf z img t j)) refl (f .whole) (f .rangeEnds)
 
     pub entry-long : (length (keyOf img (entryAt z img t j)) ≡ entryAt z img t j .keyLength) × (length (valueOf img (entryAt z img t j)) ≡ entryAt z img t j .valueLength)
     entry-long = (length-cut img _ _ (entry-inside .0), length-cut img _ _ (entry-inside .1))
