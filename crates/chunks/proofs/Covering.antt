@@ -1,4 +1,4 @@
--- What counting the chunks of a tier's entries finds. Assumes nothing.
+-- What counting the chunks of entries finds. Assumes nothing.
 use Prim.Native.Nat.{ℕ, _+_, _≤_, _<_}
 use mathlib.Core.List.{List, [], _∷_, _++_, map, flatMap, append-nil}
 use mathlib.Core.Path.{_≡_, refl, ap, sym, _∙_, subst}
@@ -7,20 +7,20 @@ use mathlib.Core.Bool.{not}
 use native.Mathlib.Omega.{arith}
 use native.Mathlib.Numerals.{add-one}
 use lib.Dec.{eqb}
-use lib.ListN.{length, length-map, getD, set, length-append, List·getD-eq-default}
-use borrow.Author.Tests.{eq-eqb, ne-eqb, lt-ltb, le-ltb, le-leb, lt-leb}
+use lib.ListN.{length, getD, set}
+use borrow.Author.Tests.{lt-ltb, le-ltb, le-leb, lt-leb}
 use Rattle.lists.specs.Cases.{lt-or}
-use Rattle.lists.specs.Lists.{span, below, those, howMany}
-use Rattle.lists.proofs.Lists.{span-more, flatMap-append, howMany-append, howMany-le, length-span}
+use Rattle.lists.specs.Lists.{span, those, howMany}
+use Rattle.lists.proofs.Lists.{span-more, flatMap-append, howMany-append}
 use Rattle.settings.specs.declared.Settings.{Settings}
 use Rattle.layout.specs.declared.Shape.{Shape}
 use Rattle.chains.specs.Walk.{tally, MetAtMost}
 use Rattle.chains.proofs.Tally.{tally-append, length-tally, getD-tally}
 use Rattle.entries.specs.declared.Live.{Live}
-use Rattle.entries.specs.Live.{slotAt, fullSlots, liveAt, liveIn}
+use Rattle.entries.specs.Live.{slotAt, liveAt}
 use Rattle.chunks.specs.Chunks.{covers}
-use Rattle.chunks.specs.Counting.{chunksOfEntry, chunksOfAll, RangesIn, Covers}
-use Rattle.lists.proofs.Rows.{row-before, row-after, row-in, those-more, those-same}
+use Rattle.chunks.specs.Counting.{chunksOfEntry, chunksOfAll, RangesIn}
+use Rattle.lists.proofs.Rows.{row-before, row-after, row-in}
 
 -- ---- the chunks of one entry
 
@@ -74,102 +74,20 @@ covered-by i [] = refl
 covered-by i (e ∷ es) =
     howMany-append (eqb i) (chunksOfEntry e) (chunksOfAll es) ∙ omega (arith, one-more i e es, covered-by i es)
 
-chunksOfAll-more : (es : List Live) (e : Live) → chunksOfAll (es ++ (e ∷ [])) ≡ chunksOfAll es ++ chunksOfEntry e
+pub chunksOfAll-more : (es : List Live) (e : Live) → chunksOfAll (es ++ (e ∷ [])) ≡ chunksOfAll es ++ chunksOfEntry e
 unfolding chunksOfAll flatMap
 chunksOfAll-more es e =
     flatMap-append chunksOfEntry es (e ∷ []) ∙ ap (λ (r : List ℕ). flatMap chunksOfEntry es ++ r) (append-nil (chunksOfEntry e))
 
-map-more : {A B : Type 0} (f : A → B) (xs : List A) (x : A) → map f (xs ++ (x ∷ [])) ≡ map f xs ++ (f x ∷ [])
+pub map-more : {A B : Type 0} (f : A → B) (xs : List A) (x : A) → map f (xs ++ (x ∷ [])) ≡ map f xs ++ (f x ∷ [])
 map-more f [] x = refl
 map-more {B = B} f (y ∷ xs) x = ap (λ (r : List B). f y ∷ r) (map-more f xs x)
 
--- ---- the entries of a tier
+-- ---- an entry in its tier
 
 module _ (z : Shape) (img : List ℕ) (s t : ℕ) where
   open Shape z using (settings)
   open Settings settings using (slots, chunks)
-
-  -- of the first n slots those that are full, and their entries
-  unfoldable pub fullBelow : ℕ → List ℕ
-  fullBelow n = those (below n) (λ j. not (eqb (slotAt z img t j) 0))
-
-  unfoldable pub liveBelow : ℕ → List Live
-  liveBelow n = map (liveAt z img s t) (fullBelow n)
-
-  pub record Covering (before now : List ℕ) (n j : ℕ) : Type 0 where
-    pub low : j ≤ slots
-    pub count : n ≡ length (fullBelow j)
-    pub counted : now ≡ tally before (chunksOfAll (liveBelow j))
-
-  pub covering-starts : (before : List ℕ) → Covering before before 0 0
-  unfolding fullBelow liveBelow chunksOfAll flatMap tally those span
-  covering-starts before = record { low = omega arith; count = refl; counted = refl }
-
-  few : (n : ℕ) → length (fullBelow n) ≤ n
-  unfolding fullBelow
-  few n = omega (arith, howMany-le (λ j. not (eqb (slotAt z img t j) 0)) (below n), length-span 0 n)
-
-  live-few : (n : ℕ) → length (liveBelow n) ≤ n
-  unfolding liveBelow
-  live-few n = omega (arith, length-map (fullBelow n) (liveAt z img s t), few n)
-
-  module _ {before now : List ℕ} {n j : ℕ} (w : Covering before now n j) where
-    pub covering-long : length now ≡ length before
-    covering-long = ap length (w .counted) ∙ length-tally before (chunksOfAll (liveBelow j))
-
-    pub covering-few : n ≤ j
-    covering-few = omega (arith, w .count, few j)
-
-    -- no chunk is counted more often than there are slots
-    pub covering-small : MetAtMost before 0 → slots ≤ 4096 → MetAtMost now 4096
-    covering-small zeros f i =
-        ⊎-elim
-        (λ (l : i < length before).
-        omega (
-          arith,
-          ap (λ (r : List ℕ). getD r i 0) (w .counted),
-          getD-tally before (chunksOfAll (liveBelow j)) i l,
-          zeros i,
-          covered-by i (liveBelow j),
-          howMany-le (covers i) (liveBelow j),
-          live-few j,
-          w .low,
-        ))
-        (λ (l : length before ≤ i).
-        let k : length now ≤ i = omega (arith, covering-long) in
-        rw (List·getD-eq-default now 0 k) (omega arith))
-        (lt-or i (length before))
-
-    pub covering-full : j < slots → slotAt z img t j ≢ 0 → (e : Live) → e ≡ liveAt z img s t j → {next : List ℕ} {m : ℕ} → next ≡ tally now (span (e .chunk) (e .chunks))
-        → m ≡ n + 1 → Covering before next m (j + 1)
-    unfolding fullBelow liveBelow
-    covering-full h ne e q r p =
-        let more : fullBelow (j + 1) ≡ fullBelow j ++ (j ∷ []) = those-more (λ i. not (eqb (slotAt z img t i) 0)) j (ap not (ne-eqb (slotAt z img t j) 0 ne)) in
-        let live : liveBelow (j + 1) ≡ liveBelow j ++ (e ∷ []) =
-        ap (map (liveAt z img s t)) more ∙ map-more (liveAt z img s t) (fullBelow j) j ∙ ap (λ (x : Live). liveBelow j ++ (x ∷ [])) (sym q) in
-        record {
-          low = omega arith;
-          count = omega (arith, p, w .count, ap length more, length-append (fullBelow j) (j ∷ []));
-          counted =
-              r ∙ ap (λ (x : List ℕ). tally x (chunksOfEntry e)) (w .counted) ∙ sym (tally-append before (chunksOfAll (liveBelow j)) (chunksOfEntry e)) ∙
-              ap (tally before) (sym (ap chunksOfAll live ∙ chunksOfAll-more (liveBelow j) e));
-        }
-
-    pub covering-empty : j < slots → slotAt z img t j ≡ 0 → {next : List ℕ} {m : ℕ} → next ≡ now → m ≡ n → Covering before next m (j + 1)
-    unfolding fullBelow liveBelow
-    covering-empty h e r p =
-        let same : fullBelow (j + 1) ≡ fullBelow j = those-same (λ i. not (eqb (slotAt z img t i) 0)) j (ap not (eq-eqb (slotAt z img t j) 0 e)) in
-        record {
-          low = omega arith;
-          count = p ∙ w .count ∙ sym (ap length same);
-          counted = r ∙ w .counted ∙ sym (ap (λ (r : List ℕ). tally before (chunksOfAll (map (liveAt z img s t) r))) same);
-        }
-
-    pub covering-ends : slots ≤ j → Covers z img s t before now n
-    unfolding fullBelow liveBelow fullSlots liveIn
-    covering-ends h =
-        let e : j ≡ slots = omega (arith, w .low) in
-        (rw e at (w .count), rw e at (w .counted))
 
   -- the entry that a full slot names ends within the tier
   pub range-ends : RangesIn z img t → (j : ℕ) → j < slots → slotAt z img t j ≢ 0 → (e : Live) → e ≡ liveAt z img s t j → e .chunk + e .chunks ≤ chunks

@@ -1,16 +1,18 @@
 -- A chain gone through up to its end, tier by tier: what was met so far, and what is left. Assumes nothing.
 use Prim.Native.Nat.{ℕ, zero, suc, _≤_, _<_}
-use mathlib.Core.List.{List, [], _∷_, _++_, append-nil, List·Memᴰ, List·Memᴰ·head, List·Memᴰ·append-cases, List·Memᴰ·eq-of-singleton, Memᴰ·append-right}
-use mathlib.Core.Path.{_≡_, refl, ap, sym, _∙_, subst}
+use mathlib.Core.List.{List, [], _∷_, _++_, append-nil, List·Memᴰ, List·Memᴰ·head, Memᴰ·append-right}
+use mathlib.Core.Path.{_≡_, refl, ap, sym, _∙_}
 use mathlib.Core.Logic.{⊎-elim, _≢_}
 use native.Mathlib.Omega.{arith}
 use lib.ListN.{length, length-append}
 use lib.Seq.{append-snoc}
 use Rattle.lists.specs.Cases.{same-or}
 use Rattle.lists.specs.Quantify.{Every, every-none}
+use Rattle.lists.proofs.Members.{every-more}
 use Rattle.layout.specs.declared.Shape.{Shape}
 use Rattle.layout.specs.Tiers.{tiers}
-use Rattle.chains.specs.Chains.{nextOf, follow, endOf}
+use Rattle.chains.specs.Chains.{nextOf, follow, endOf, freeHead, freeChain, FreeChainFits}
+use Rattle.chunks.specs.Chunks.{FreeTierFits}
 use Rattle.chains.proofs.Follow.{follow-none, follow-more, end-none, end-more, end-out}
 
 module _ (z : Shape) (img : List ℕ) where
@@ -85,5 +87,18 @@ module _ (z : Shape) (img : List ℕ) where
             record {
               splits = rw e (w .splits ∙ ap (λ (r : List ℕ). done ++ r) here ∙ sym (append-snoc done t (follow z img (tiers z) (nextOf z img t))));
               ends = rw e (end-steps (tiers z) t ne (w .ends));
-              fits = λ x m. ⊎-elim (λ k. w .fits x k) (λ k. subst P (sym (List·Memᴰ·eq-of-singleton k)) p) (List·Memᴰ·append-cases done m);
+              fits = every-more done t (w .fits) p;
             }
+
+-- ---- the free chain
+
+module _ (z : Shape) (img : List ℕ) where
+  abbrev pub Freeing : ℕ → Type 0
+  Freeing t = (done : List ℕ) × Through z img (FreeTierFits z img) (freeChain z img) done t
+
+  pub free-starts : FreeChainFits z img → {t : ℕ} → t ≡ freeHead z img → Freeing t
+  unfolding freeChain
+  free-starts f e = rw e ([], through-starts z img (FreeTierFits z img) (freeHead z img) (f .ends))
+
+  pub free-turns : {t : ℕ} (w : Freeing t) → t ≢ 0 → FreeTierFits z img t → {u : ℕ} → u ≡ nextOf z img t → Freeing u
+  free-turns {t} w ne p e = (w .0 ++ (t ∷ []), through-turns z img (w .1) ne e p)

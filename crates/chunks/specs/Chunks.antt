@@ -2,7 +2,7 @@
 use Prim.Native.Nat.{ℕ, _+_}
 use mathlib.Core.List.{List}
 use mathlib.Core.Path.{_≡_}
-use mathlib.Core.Bool.{Bool, true, false, _&&_}
+use mathlib.Core.Bool.{Bool, _&&_}
 use native.Mathlib.Decide.{ℕ-discrete}
 use lib.Dec.{leb, ltb, eqb}
 use lib.ListN.{length}
@@ -14,9 +14,7 @@ use Rattle.layout.specs.declared.Shape.{Shape}
 use Rattle.layout.specs.Places.{get, mark, lowPlace, countPlace}
 use Rattle.chains.specs.Chains.{chain, chained, freeChain}
 use Rattle.entries.specs.declared.Live.{Live}
-use Rattle.entries.specs.Live.{slotAt, fullSlots, liveIn, live}
-use Rattle.chunks.specs.declared.Chunks.{Chunks}
-use Rattle.chunks.specs.declared.Chunks.the-variants.{Fit, Broken}
+use Rattle.entries.specs.Live.{slotAt, fullSlots, liveIn}
 
 -- the entry covers chunk i
 abbrev pub covers : ℕ → Live → Bool
@@ -74,17 +72,10 @@ module _ (z : Shape) (img : List ℕ) where
       rule (λ v. v .freeFit) (every? FreeTierFits freeTierFits? (freeChain z img)) λ b.
       yes (record { tiersFit = a; freeFit = b })
 
-  -- ---- the answer, with the counts: live entries, and chunks whose bit is 1 in chained tiers
+  -- ---- how many chunks are marked: in a tier, and in the chained tiers
 
   unfoldable pub markedIn : ℕ → ℕ
   markedIn t = howMany (below chunks) (λ i. eqb (mark z img t i) 1)
 
   unfoldable pub markedChunks : ℕ
   markedChunks = total (chained z img) markedIn
-
-  unfoldable pub fromChunks : Dec ChunksFit → Chunks
-  fromChunks (no _) = Broken
-  fromChunks (yes _) = Fit (length (live z img)) markedChunks
-
-  unfoldable pub chunksOf : Chunks
-  chunksOf = fromChunks chunksFit?

@@ -1,26 +1,21 @@
--- What is asked of an image before its chunks are counted, and what the counts of a tier, a chain and several chains say.
+-- The chunks of entries in a row, and what comparing them with the bits of a tier says.
 use Prim.Native.Nat.{ℕ, _+_, _*_, _≤_, _<_}
 use mathlib.Core.List.{List, flatMap}
 use mathlib.Core.Path.{_≡_}
 use mathlib.Core.Logic.{_≢_}
 use lib.Dec.{eqb}
-use lib.ListN.{length, getD}
-use Rattle.lists.specs.Lists.{span, below, howMany, total}
-use Rattle.lists.specs.Quantify.{Below, Every}
+use lib.ListN.{getD}
+use Rattle.lists.specs.Lists.{span, below, howMany}
+use Rattle.lists.specs.Quantify.{Below}
 use Rattle.words.specs.Bits.{bitOf}
 use Rattle.settings.specs.declared.Settings.{Settings}
 use Rattle.layout.specs.declared.Shape.{Shape}
 use Rattle.layout.specs.Places.{mark}
-use Rattle.chains.specs.Chains.{chain}
-use Rattle.chains.specs.Walk.{tally}
 use Rattle.entries.specs.declared.Live.{Live}
 use Rattle.entries.specs.Stored.{chunksFor}
-use Rattle.entries.specs.Live.{slotAt, chunkOf, entryAt, fullSlots, liveIn, liveOf}
-use Rattle.chunks.specs.declared.Chunks.{Chunks}
-use Rattle.chunks.specs.declared.Chunks.the-variants.{Fit, Broken}
+use Rattle.entries.specs.Live.{slotAt, chunkOf, entryAt}
 use Rattle.chunks.specs.declared.Compared.{Compared}
 use Rattle.chunks.specs.declared.Compared.the-variants.{Same, Differ}
-use Rattle.chunks.specs.Chunks.{TierFits, markedIn}
 
 -- the chunks of an entry; those of several, one after the other
 abbrev pub chunksOfEntry : Live → List ℕ
@@ -63,28 +58,3 @@ module _ (z : Shape) (img : List ℕ) where
   -- the entry of each full slot of tier t ends within the tier
   abbrev pub RangesIn : ℕ → Type 0
   RangesIn t = Below slots (λ j. slotAt z img t j ≢ 0 → chunkOf z img t j + chunksFor settings (entryAt z img t j .keyLength) (entryAt z img t j .valueLength) ≤ chunks)
-
-  -- the same for all chained tiers: one of the rules of slots and entries, which are asked before those of chunks
-  abbrev pub RangesFit : Type 0
-  RangesFit = Below segments (λ s. Every (chain z img s) RangesIn)
-
-  -- a tier's entries were counted at their chunks, and there are so many
-  abbrev pub Covers : ℕ → ℕ → List ℕ → List ℕ → ℕ → Type 0
-  Covers s t covered covered′ n = (n ≡ length (fullSlots z img t)) × (covered′ ≡ tally covered (chunksOfAll (liveIn z img s t)))
-
-  -- the counts of a tier whose rules hold, or that one is broken
-  abbrev pub TierCounts : ℕ → ℕ → Chunks → Type 0
-  TierCounts s t (Fit n m) = TierFits z img s t × ((n ≡ length (fullSlots z img t)) × (m ≡ markedIn z img t))
-  TierCounts s t Broken = TierFits z img s t → ⊥
-
-  -- the same for a segment's chain
-  abbrev pub ChainCounts : ℕ → Chunks → Type 0
-  ChainCounts s (Fit n m) = Every (chain z img s) (TierFits z img s) × ((n ≡ length (liveOf z img s)) × (m ≡ total (chain z img s) (markedIn z img)))
-  ChainCounts s Broken = Every (chain z img s) (TierFits z img s) → ⊥
-
-  -- and for the chains of the first n segments
-  abbrev pub AllCounts : ℕ → Chunks → Type 0
-  AllCounts n (Fit a b) =
-      Below n (λ s. Every (chain z img s) (TierFits z img s)) ×
-      ((a ≡ length (flatMap (liveOf z img) (below n))) × (b ≡ total (flatMap (chain z img) (below n)) (markedIn z img)))
-  AllCounts n Broken = Below n (λ s. Every (chain z img s) (TierFits z img s)) → ⊥

@@ -1,4 +1,4 @@
-// The free lists and the counters.
+// The free lists, and the chunks that entries cover.
 use layout::Shape;
 ghost use mathlib.Core.Path.{_≡_};
 ghost use mathlib.Core.Logic.{_≢_};
@@ -11,26 +11,20 @@ ghost use Rattle.words.specs.Bits.{bitOf};
 ghost use Rattle.layout.specs.Tiers.{IsTier};
 ghost use Rattle.layout.specs.Places.{freeListAt, mark};
 ghost use Rattle.layout.specs.Frame.{Framed};
-ghost use Rattle.chains.specs.Chains.{freeChain, ChainFits, FreeChainFits, ChainsFit};
+ghost use Rattle.chains.specs.Chains.{freeChain, FreeChainFits};
 ghost use Rattle.chains.specs.Walk.{tally, MetAtMost};
 ghost use Rattle.entries.specs.Live.{slotAt};
-ghost use Rattle.chunks.specs.Chunks.{lowestClear, FreeTierFits, chunksOf};
-ghost use Rattle.chunks.specs.Counting.{IsByte, IsFour, spreadOf, onesOf, MarksBelow, RangesIn, RangesFit, Covers, TierCounts, ChainCounts, AllCounts};
-
-// Whether chunks and counters fit: how many entries are live and how many chunks marked, or that a rule is broken.
-pub enum Chunks {
-    Fit(usize, usize),
-    Broken,
-}
+ghost use Rattle.chunks.specs.Chunks.{lowestClear, FreeTierFits};
+ghost use Rattle.chunks.specs.Counting.{IsByte, IsFour, spreadOf, onesOf, MarksBelow};
 
 // Whether the bits of a tier are the counts of its chunks: how many are 1, or that one is not.
-enum Compared {
+pub enum Compared {
     Same(usize),
     Differ,
 }
 
 // Counts n chunks from c on once more.
-fn count(covered: &mut [u16], c: usize, n: usize)
+pub fn count(covered: &mut [u16], c: usize, n: usize)
     requires { ⌜ (c + n ≤ length (now covered)) × MetAtMost (now covered) 4096 ⌝ }
     ensures { λ r. ⌜ now (covered .exit) ≡ tally (now (covered .entry)) (span c n) ⌝ }
 {
@@ -39,24 +33,6 @@ fn count(covered: &mut [u16], c: usize, n: usize)
         covered[c + i] += 1;
         i += 1;
     }
-}
-
-// Counts for each chunk how many entries of a tier cover it; how many slots are full.
-fn cover(z: Shape, img: &[u8], s: usize, t: usize, covered: &mut [u16]) -> usize
-    requires { ⌜ Framed z (length (now img)) × IsTier z t × RangesIn z (now img) t × (z .settings .chunks ≤ length (now covered)) × MetAtMost (now covered) 0 ⌝ }
-    ensures { λ r. ⌜ Covers z (now (img .entry)) s t (now (covered .entry)) (now (covered .exit)) r ⌝ }
-{
-    let mut n = 0;
-    let mut j = 0;
-    while j < z.settings.slots {
-        if layout::read::slot(z, img, t, j) != 0 {
-            let e = entries::read::live_at(z, img, s, t, j);
-            count(covered, e.chunk, e.chunks);
-            n += 1;
-        }
-        j += 1;
-    }
-    n
 }
 
 // The byte with the bits of the 8 chunks from i on, of the free list at an offset: the loops work the offset out once.
@@ -141,7 +117,7 @@ fn bytes_agree(z: Shape, img: &[u8], t: usize, covered: &[u16]) -> Compared
 }
 
 // The same for all chunks of a tier.
-fn marks_agree(z: Shape, img: &[u8], t: usize, covered: &[u16]) -> Compared
+pub fn marks_agree(z: Shape, img: &[u8], t: usize, covered: &[u16]) -> Compared
     requires { ⌜ Framed z (length (now img)) × IsTier z t × (z .settings .chunks ≤ length (now covered)) ⌝ }
     ensures { λ r. ⌜ MarksBelow z (now (img .entry)) t (now (covered .entry)) (z .settings .chunks) r ⌝ }
 {
@@ -226,64 +202,6 @@ fn all_clear(z: Shape, img: &[u8], t: usize) -> bool
     true
 }
 
-// One tier of a segment's chain: its full slots and its marked chunks.
-fn tier_fits(z: Shape, img: &[u8], s: usize, t: usize) -> Chunks
-    requires { ⌜ Framed z (length (now img)) × IsTier z t × RangesIn z (now img) t ⌝ }
-    ensures { λ r. ⌜ TierCounts z (now (img .entry)) s t r ⌝ }
-{
-    let mut covered = [0u16; 4096];
-    let full = cover(z, img, s, t, &mut covered);
-    let Compared::Same(marked) = marks_agree(z, img, t, &covered) else {
-        return Chunks::Broken;
-    };
-    if layout::read::count_of(z, img, t) != full as u64 {
-        return Chunks::Broken;
-    }
-    let low = lowest_clear(z, img, t);
-    if layout::read::low_of(z, img, t) != low as u64 {
-        return Chunks::Broken;
-    }
-    Chunks::Fit(full, marked)
-}
-
-// The chain of a segment.
-fn chain_fits(z: Shape, img: &[u8], s: usize) -> Chunks
-    requires { ⌜ Framed z (length (now img)) × (s < z .settings .segments) × ChainFits z (now img) s × RangesFit z (now img) ⌝ }
-    ensures { λ r. ⌜ ChainCounts z (now (img .entry)) s r ⌝ }
-{
-    let mut entries = 0;
-    let mut marked = 0;
-    let mut t = s + 1;
-    while t != 0 {
-        let Chunks::Fit(n, m) = tier_fits(z, img, s, t) else {
-            return Chunks::Broken;
-        };
-        entries += n;
-        marked += m;
-        t = layout::read::next_of(z, img, t) as usize;
-    }
-    Chunks::Fit(entries, marked)
-}
-
-// The chains of all segments.
-fn segments_fit(z: Shape, img: &[u8]) -> Chunks
-    requires { ⌜ Framed z (length (now img)) × Below (z .settings .segments) (ChainFits z (now img)) × RangesFit z (now img) ⌝ }
-    ensures { λ r. ⌜ AllCounts z (now (img .entry)) (z .settings .segments) r ⌝ }
-{
-    let mut entries = 0;
-    let mut marked = 0;
-    let mut s = 0;
-    while s < z.settings.segments {
-        let Chunks::Fit(n, m) = chain_fits(z, img, s) else {
-            return Chunks::Broken;
-        };
-        entries += n;
-        marked += m;
-        s += 1;
-    }
-    Chunks::Fit(entries, marked)
-}
-
 // Whether all slots of a tier are empty.
 fn slots_empty(z: Shape, img: &[u8], t: usize) -> bool
     requires { ⌜ Framed z (length (now img)) × IsTier z t ⌝ }
@@ -300,7 +218,7 @@ fn slots_empty(z: Shape, img: &[u8], t: usize) -> bool
 }
 
 // Whether the tiers of the free chain hold nothing.
-fn free_fits(z: Shape, img: &[u8]) -> bool
+pub fn free_fits(z: Shape, img: &[u8]) -> bool
     requires { ⌜ Framed z (length (now img)) × FreeChainFits z (now img) ⌝ }
     ensures { λ r. ⌜ Decides r (Every (freeChain z (now (img .entry))) (FreeTierFits z (now (img .entry)))) ⌝ }
 {
@@ -315,18 +233,4 @@ fn free_fits(z: Shape, img: &[u8]) -> bool
         t = layout::read::next_of(z, img, t) as usize;
     }
     true
-}
-
-// Chunks and counters of an image whose chains fit and whose entries lie within their tiers.
-pub fn chunks_of(z: Shape, img: &[u8]) -> Chunks
-    requires { ⌜ Framed z (length (now img)) × ChainsFit z (now img) × RangesFit z (now img) ⌝ }
-    ensures { λ r. ⌜ r ≡ chunksOf z (now (img .entry)) ⌝ }
-{
-    let Chunks::Fit(entries, marked) = segments_fit(z, img) else {
-        return Chunks::Broken;
-    };
-    if !free_fits(z, img) {
-        return Chunks::Broken;
-    }
-    Chunks::Fit(entries, marked)
 }

@@ -1,4 +1,5 @@
 pub mod Slots
+pub mod Powers
 pub mod Hashes
 pub mod Sizes
 pub mod Matching

@@ -1,8 +1,8 @@
-// What a slot holds, and what of it a key's hash gives.
+// What a slot holds, and what of it a key's hash gives. Segments and slots are powers of two: no division.
 use settings::Settings;
 ghost use mathlib.Core.Path.{_≡_};
 ghost use Prim.Native.Nat.{_-_, _%_, _^_, _<_};
-ghost use Rattle.settings.specs.Rules.{Valid};
+ghost use Rattle.settings.specs.Rules.{PowerOfTwo, Valid};
 ghost use Rattle.entries.specs.Keys.{segmentOfHash, lookupOfHash, start as Keys·start, slotKey, slotChunk, slotRest, slotWith};
 
 // n bits that are 1.
@@ -19,6 +19,22 @@ fn low_bits(x: u64, n: usize) -> u64
     ensures { λ r. ⌜ (r ≡ x % 2 ^ n) × (r < 2 ^ n) ⌝ }
 {
     x & ones(n)
+}
+
+// The bits below the one that a power of two is.
+fn log2(x: usize) -> usize
+    requires { ⌜ PowerOfTwo x ⌝ }
+    ensures { λ r. ⌜ (x ≡ 2 ^ r) × (r < 64) ⌝ }
+{
+    63 - u64::leading_zeros(x as u64) as usize
+}
+
+// The remainder by a power of two.
+fn below(x: u64, n: usize) -> usize
+    requires { ⌜ PowerOfTwo n ⌝ }
+    ensures { λ r. ⌜ (r ≡ x % n) × (r < n) ⌝ }
+{
+    (x & (n as u64 - 1)) as usize
 }
 
 // The lookup key of a slot.
@@ -60,7 +76,7 @@ pub fn segment_of_hash(st: Settings, h: u64) -> usize
     requires { ⌜ Valid st ⌝ }
     ensures { λ r. ⌜ (r ≡ segmentOfHash st h) × (r < st .segments) ⌝ }
 {
-    (h % st.segments as u64) as usize
+    below(h, st.segments)
 }
 
 // Its lookup key: never 0, so that the slot of chunk 0 does not look empty.
@@ -68,7 +84,7 @@ pub fn lookup_of_hash(st: Settings, h: u64) -> u64
     requires { ⌜ Valid st ⌝ }
     ensures { λ r. ⌜ (r ≡ lookupOfHash st h) × (0 < r) × (r < 2 ^ st .keyBits) ⌝ }
 {
-    let part = low_bits(h / st.segments as u64, st.keyBits);
+    let part = low_bits(h >> log2(st.segments), st.keyBits);
     if part == 0 {
         return ones(st.keyBits);
     }
@@ -80,5 +96,5 @@ pub fn start(st: Settings, lookup: u64) -> usize
     requires { ⌜ Valid st ⌝ }
     ensures { λ r. ⌜ (r ≡ Keys·start st lookup) × (r < st .slots) ⌝ }
 {
-    (lookup % st.slots as u64) as usize
+    below(lookup, st.slots)
 }

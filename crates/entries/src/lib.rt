@@ -47,5 +47,10 @@ pub fn chunks_for(st: Settings, k: usize, v: usize) -> usize
     requires { ⌜ Valid st × (k ≤ largest) × (v ≤ largest) ⌝ }
     ensures { λ r. ⌜ r ≡ chunksFor st k v ⌝ }
 {
-    (value_offset(st, k, v) + v + st.chunkSize - 1) / st.chunkSize
+    let size = value_offset(st, k, v) + v;
+    // most entries take one chunk, and a division is slow
+    if size <= st.chunkSize {
+        return 1;
+    }
+    (size + st.chunkSize - 1) / st.chunkSize
 }

@@ -1,7 +1,7 @@
 -- The stages one after the other, as the code asks them. Assumes nothing.
-use Prim.Native.Nat.{ℕ, _<_}
+use Prim.Native.Nat.{ℕ}
 use mathlib.Core.List.{List}
-use mathlib.Core.Path.{_≡_, refl, ap, ap₂, sym, _∙_, subst}
+use mathlib.Core.Path.{_≡_, refl, ap, sym, _∙_}
 use native.Mathlib.Omega.{arith}
 use lib.ListN.{length}
 use Rattle.settings.specs.declared.Settings.{Settings}
@@ -19,13 +19,11 @@ use Rattle.chains.proofs.Along.{chain-tiers}
 use Rattle.entries.specs.Live.{live}
 use Rattle.search.specs.Search.{ChainTiers}
 use Rattle.search.specs.Rules.{EntriesFit, entriesFit?}
-use Rattle.chunks.specs.declared.Chunks.the-variants as chunks
-use Rattle.chunks.specs.Chunks.{ChunksFit, chunksFit?, chunksOf, markedChunks}
-use Rattle.chunks.specs.Counting.{RangesFit}
-use Rattle.chunks.proofs.Answer.{chunks-fit, chunks-only}
-use Rattle.image.specs.declared.Stage.{Stage}
+use Rattle.chunks.specs.Chunks.{ChunksFit, chunksFit?, markedChunks}
+use Rattle.contents.specs.declared.Contents.{Contents}
+use Rattle.contents.specs.declared.Contents.the-variants.{Fit, BadChunks, BadEntries}
+use Rattle.contents.specs.Contents.{fromChunks, fromEntries, contentsOf}
 use Rattle.image.specs.declared.Stage.the-variants as stage
-use Rattle.image.specs.declared.Counts.{Counts}
 use Rattle.image.specs.declared.Examined.{Examined}
 use Rattle.image.specs.declared.Examined.the-variants.{Ready, Refused}
 use Rattle.image.specs.Check.{countsOf, afterChunks, afterEntries, afterChains, afterFrame}
@@ -53,20 +51,10 @@ module _ (z : Shape) (img : List ℕ) where
   chains-yes (no n) f = absurd (n f)
   chains-yes (yes _) f = refl
 
-  entries-no : (d : Dec (EntriesFit z img)) → (EntriesFit z img → ⊥) → afterEntries z img d ≡ Refused stage.Entries
-  unfolding afterEntries
-  entries-no (no _) n = refl
-  entries-no (yes f) n = absurd (n f)
-
   pub entries-yes : (d : Dec (EntriesFit z img)) → EntriesFit z img → afterEntries z img d ≡ afterChunks z img (chunksFit? z img)
   unfolding afterEntries
   entries-yes (no n) f = absurd (n f)
   entries-yes (yes _) f = refl
-
-  chunks-no : (d : Dec (ChunksFit z img)) → (ChunksFit z img → ⊥) → afterChunks z img d ≡ Refused stage.Chunks
-  unfolding afterChunks
-  chunks-no (no _) n = refl
-  chunks-no (yes f) n = absurd (n f)
 
   pub chunks-yes : (d : Dec (ChunksFit z img)) → ChunksFit z img → afterChunks z img d ≡ Ready z (countsOf z img)
   unfolding afterChunks
@@ -113,32 +101,28 @@ module _ (st : Settings) (img : List ℕ) where
       at-entries : afterEntries z img (entriesFit? z img) ≡ target
       at-entries = sym (chains-yes z img (chainsFit? z img) chains-here) ∙ at-chains
 
-      pub entries-refused : (EntriesFit z img → ⊥) → Refused stage.Entries ≡ target
-      entries-refused b = sym (entries-no z img (entriesFit? z img) b) ∙ at-entries
+      -- ---- what the tiers hold says what is examined
 
-      module _ (f : EntriesFit z img) where
-        pub ranges-here : RangesFit z img
-        ranges-here s h t i j l full = f .tiersFit s h t i .slotsFit .full j l full .rangeEnds
+      abbrev seen : Contents → Examined
+      seen BadEntries = Refused stage.Entries
+      seen BadChunks = Refused stage.Chunks
+      seen (Fit a b) = Ready z (record { entries = a; chunks = b; tiers = m; free = n })
 
-        at-chunks : afterChunks z img (chunksFit? z img) ≡ target
-        at-chunks = sym (entries-yes z img (entriesFit? z img) f) ∙ at-entries
+      seen-chunks : (d : Dec (ChunksFit z img)) → seen (fromChunks z img d) ≡ afterChunks z img d
+      unfolding fromChunks afterChunks countsOf
+      seen-chunks (no _) = refl
+      seen-chunks (yes _) =
+          let q : chains.Fit (length (chained z img)) (length (freeChain z img)) ≡ chains.Fit m n = sym (chains-fit z img chains-here) ∙ c in
+          let em : length (chained z img) ≡ m = cc in
+          let en : length (freeChain z img) ≡ n = cc in
+          λ i. Ready z (record { entries = length (live z img); chunks = markedChunks z img; tiers = sym em i; free = sym en i })
 
-        pub chunks-refused : chunksOf z img ≡ chunks.Broken → Refused stage.Chunks ≡ target
-        chunks-refused k =
-            sym
-            (chunks-no z img (chunksFit? z img)
-            (λ g. let h : chunks.Fit (length (live z img)) (markedChunks z img) ≡ chunks.Broken = sym (chunks-fit z img g) ∙ k in let q : _≡_ {A = ℕ} 0 1 = cc in omega arith))
-            ∙ at-chunks
+      seen-entries : (d : Dec (EntriesFit z img)) → seen (fromEntries z img d) ≡ afterEntries z img d
+      unfolding fromEntries afterEntries
+      seen-entries (no _) = refl
+      seen-entries (yes _) = seen-chunks (chunksFit? z img)
 
-        pub ready-here : (a b : ℕ) → chunksOf z img ≡ chunks.Fit a b → Ready z (record { entries = a; chunks = b; tiers = m; free = n }) ≡ target
-        unfolding countsOf
-        ready-here a b k =
-            let g : ChunksFit z img = chunks-only z img a b k in
-            let p : chunks.Fit (length (live z img)) (markedChunks z img) ≡ chunks.Fit a b = sym (chunks-fit z img g) ∙ k in
-            let q : chains.Fit (length (chained z img)) (length (freeChain z img)) ≡ chains.Fit m n = sym (chains-fit z img chains-here) ∙ c in
-            let ea : length (live z img) ≡ a = cc in
-            let eb : markedChunks z img ≡ b = cc in
-            let em : length (chained z img) ≡ m = cc in
-            let en : length (freeChain z img) ≡ n = cc in
-            let same : record { entries = a; chunks = b; tiers = m; free = n } ≡ countsOf z img = λ i. record { entries = sym ea i; chunks = sym eb i; tiers = sym em i; free = sym en i } in
-            ap (Ready z) same ∙ sym (chunks-yes z img (chunksFit? z img) g) ∙ at-chunks
+      -- with the equation that the answer is taken by
+      pub examined : (r : Contents) → r ≡ contentsOf z img → (x : Contents) → r ≡ x → seen x ≡ target
+      unfolding contentsOf
+      examined r is x e = ap seen (sym e ∙ is) ∙ seen-entries (entriesFit? z img) ∙ at-entries

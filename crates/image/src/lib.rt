@@ -2,14 +2,13 @@
 pub mod list;
 
 use chains::Chains;
-use chunks::Chunks;
+use contents::Contents;
 use entries::Live;
 use layout::Frame;
 use layout::Shape;
 use settings::Parsed;
 use settings::Settings;
 ghost use mathlib.Core.Path.{_≡_};
-ghost use lib.ListN.{length};
 ghost use Rattle.settings.specs.Rules.{Valid};
 ghost use Rattle.layout.specs.Frame.{shapeOf, frameFits?};
 ghost use Rattle.image.specs.Check.{afterFrame, examine as Check·examine, check as Check·check};
@@ -74,21 +73,19 @@ fn examine_image(st: Settings, img: &[u8]) -> Examined
     let Chains::Fit(tiers, free) = chains::chains_of(z, img) else {
         return Examined::Refused(Stage::Chains);
     };
-    if !search::rules::entries_fit(z, img) {
-        return Examined::Refused(Stage::Entries);
+    match contents::contents_of(z, img) {
+        Contents::BadEntries => Examined::Refused(Stage::Entries),
+        Contents::BadChunks => Examined::Refused(Stage::Chunks),
+        Contents::Fit(entries, chunks) => Examined::Ready(
+            z,
+            Counts {
+                entries,
+                chunks,
+                tiers,
+                free,
+            },
+        ),
     }
-    let Chunks::Fit(entries, chunks) = chunks::chunks_of(z, img) else {
-        return Examined::Refused(Stage::Chunks);
-    };
-    Examined::Ready(
-        z,
-        Counts {
-            entries,
-            chunks,
-            tiers,
-            free,
-        },
-    )
 }
 
 // The lowest stage that is broken, or the shape and the counts of an accepted image.

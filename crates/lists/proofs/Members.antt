@@ -2,7 +2,7 @@
 use Prim.Native.Nat.{ℕ}
 use native.Mathlib.Omega.{arith}
 use mathlib.Core.Path.{_≡_, refl, ap, sym, _∙_, subst}
-use mathlib.Core.List.{List, [], _∷_, flatMap, List·Memᴰ, List·Memᴰ·head, List·Memᴰ·tail, List·Memᴰ·not-nil, List·Memᴰ·cases-cons, List·Memᴰ·append-cases, Memᴰ·append-left, Memᴰ·append-right}
+use mathlib.Core.List.{List, [], _∷_, _++_, flatMap, List·Memᴰ, List·Memᴰ·eq-of-singleton, List·Memᴰ·head, List·Memᴰ·tail, List·Memᴰ·not-nil, List·Memᴰ·cases-cons, List·Memᴰ·append-cases, Memᴰ·append-left, Memᴰ·append-right}
 use mathlib.Core.Logic.{⊎-elim}
 use mathlib.Core.Bool.{Bool, true, false, false≢true}
 use Rattle.lists.specs.Cases.{by-test}
@@ -102,3 +102,15 @@ module _ {A : Type 0} (p : A → Bool) where
       (λ (q : x ≡ y). absurd (false≢true (sym u ∙ ap p (sym q) ∙ t)))
       (λ k. first-only x ys k t (λ z n. only z (List·Memᴰ·tail n)))
       (List·Memᴰ·cases-cons m)))
+
+-- ---- every element of a list and one more
+
+module _ {A : Type 0} {P : A → Type 0} (xs : List A) (x : A) where
+  pub every-more : Every xs P → P x → Every (xs ++ (x ∷ [])) P
+  every-more f p = λ y m. ⊎-elim (λ k. f y k) (λ k. subst P (sym (List·Memᴰ·eq-of-singleton k)) p) (List·Memᴰ·append-cases xs m)
+
+  pub every-first : Every (xs ++ (x ∷ [])) P → Every xs P
+  every-first f = λ y m. f y (Memᴰ·append-left (x ∷ []) m)
+
+  pub every-last : Every (xs ++ (x ∷ [])) P → P x
+  every-last f = f x (Memᴰ·append-right xs (List·Memᴰ·head {xs = []} refl))

@@ -7,7 +7,6 @@ use mathlib.Core.Bool.{Bool, true, false}
 use native.Mathlib.Omega.{arith}
 use lib.ListN.{length}
 use Rattle.lists.specs.Decide.{Decides}
-use Rattle.lists.proofs.Decides.{decides, decided-true, decided-false}
 use Rattle.settings.specs.declared.Settings.{Settings}
 use Rattle.layout.specs.declared.Shape.{Shape}
 use Rattle.layout.specs.Tiers.{tiers, IsTier}
@@ -139,9 +138,7 @@ module _ (z : Shape) (img : List ℕ) (t j : ℕ) where
       pub lands-full : slotAt z img t j ≢ 0 → slotAt z img t (seekIn z img k t) ≢ 0
       lands-full full = rw (ek, e) full
 
-      pub lands-decided : (b : Bool) (v : ℕ) → v ≡ slotAt z img t j → v ≢ 0 → Decides b (search z img k ≡ At t (seekIn z img k t))
-          → Decides b (slotAt z img t j ≢ 0 → search z img own ≡ At t j)
-      lands-decided b v ev n d =
+      pub lands-decided : (b : Bool) → Decides b (search z img k ≡ At t (seekIn z img k t)) → Decides b (search z img own ≡ At t j)
+      lands-decided b d =
           let d₁ : Decides b (search z img own ≡ At t (seekIn z img own t)) = subst (λ (x : List ℕ). Decides b (search z img x ≡ At t (seekIn z img x t))) ek d in
-          let d₂ : Decides b (search z img own ≡ At t j) = subst (λ (x : ℕ). Decides b (search z img own ≡ At t x)) e d₁ in
-          decides b (λ x _. decided-true b d₂ x) (λ x f. decided-false b d₂ x (f (λ q. n (ev ∙ q))))
+          subst (λ (x : ℕ). Decides b (search z img own ≡ At t x)) e d₁

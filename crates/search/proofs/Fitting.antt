@@ -1,13 +1,10 @@
 -- From the tests of the code to the rules of slots and entries. Assumes nothing.
-use Prim.Native.Nat.{ℕ, zero, suc, _+_, _-_, _≤_, _<_}
-use mathlib.Core.List.{List, [], _∷_, List·Memᴰ}
-use mathlib.Core.Path.{_≡_, refl, ap, ap₂, sym, _∙_, subst}
-use mathlib.Core.Logic.{⊎-elim, _≢_}
+use Prim.Native.Nat.{ℕ, _+_, _-_, _≤_, _<_}
+use mathlib.Core.List.{List}
+use mathlib.Core.Path.{_≡_, refl, ap, sym, _∙_, subst}
 use native.Mathlib.Omega.{arith}
 use lib.ListN.{length, take, drop}
-use Rattle.lists.specs.Cases.{lt-or}
 use Rattle.lists.specs.Quantify.{Below, Every}
-use Rattle.lists.proofs.Upto.{Upto}
 use Rattle.words.specs.Bytes.{cut}
 use Rattle.settings.specs.declared.Settings.{Settings}
 use Rattle.layout.specs.declared.Shape.{Shape}
@@ -17,15 +14,18 @@ use Rattle.chains.specs.Chains.{chain}
 use Rattle.entries.specs.declared.Entry.{Entry}
 use Rattle.entries.specs.declared.Stored.{Stored}
 use Rattle.entries.specs.declared.Stored.the-variants.{Whole, Broken}
-use Rattle.entries.specs.Keys.{segmentOf, lookupKey, slotKey, slotChunk, slotRest}
+use Rattle.entries.specs.Keys.{slotChunk, slotRest}
 use Rattle.entries.specs.Stored.{stored, entryOf, keyOf, chunksFor}
 use Rattle.entries.specs.Live.{slotAt, chunkOf, entryAt}
-use Rattle.entries.proofs.Whole.{WholeAt, whole-sound, whole-chunk, key-in-image, entry-small}
+use Rattle.entries.proofs.Whole.{WholeAt, whole-sound, whole-chunk, key-in-image}
 use Rattle.search.specs.declared.Found.{Found}
 use Rattle.search.specs.declared.Found.the-variants.{At, Absent}
+use Rattle.search.specs.declared.rules.Slot.{Slot}
+use Rattle.search.specs.declared.rules.Slot.the-variants.{Fits}
+use Rattle.search.specs.declared.rules.Slot.the-variants as slot
 use Rattle.search.specs.Search.{search, ChainTiers}
-use Rattle.search.specs.Rules.{IsWhole, Hashed, keyAt, EntryFits, SlotsFit, SomeEmpty, TierFits, KeysOnce, EntriesFit, LandsIn, Lands}
-use Rattle.search.proofs.Landing.{AllReached, lands-once, lands-all-reached, all-land}
+use Rattle.search.specs.Rules.{IsWhole, Hashed, keyAt, EntryFits, SlotsFit, EntriesFit, Lands, SlotHolds, SlotSays}
+use Rattle.search.proofs.Landing.{lands-once, lands-all-reached, all-land}
 
 -- ---- the cut of a key, as the code has it: from a place up to another
 
@@ -35,13 +35,6 @@ key-cut l at n = let e : at + n - at ≡ n = omega arith in ap (λ (k : ℕ). ta
 module _ (z : Shape) (img : List ℕ) (s t j : ℕ) where
   open Shape z using (settings)
   open Settings settings using (slots, chunks, mostChunks)
-
-  -- an empty slot is asked nothing; a full one is
-  pub empty-right : {P : Type 0} (v : ℕ) → v ≡ slotAt z img t j → v ≡ 0 → slotAt z img t j ≢ 0 → P
-  empty-right v e q n = absurd (n (sym e ∙ q))
-
-  pub full-wrong : {P : Type 0} (v : ℕ) → v ≡ slotAt z img t j → v ≢ 0 → (P → ⊥) → (slotAt z img t j ≢ 0 → P) → ⊥
-  full-wrong v e n b f = b (f (λ q. n (e ∙ q)))
 
   module _ (v c : ℕ) (ev : v ≡ slotAt z img t j) (ec : c ≡ slotChunk settings v) where
     chunk-is : c ≡ chunkOf z img t j
@@ -99,19 +92,9 @@ module _ (z : Shape) (img : List ℕ) (s t j : ℕ) where
             hashed = rw (ev, key-is) at h;
           }
 
--- ---- empty slots that a loop passes over
-
-module _ (z : Shape) (img : List ℕ) (t : ℕ) (Q : ℕ → Type 0) where
-  open Shape z using (settings)
-  open Settings settings using (slots)
-
-  pub upto-skips : {j : ℕ} → Upto (λ i. slotAt z img t i ≢ 0 → Q i) slots j → (r : ℕ) → r ≤ slots → Below r (λ i. j ≤ i → slotAt z img t i ≡ 0)
-      → Upto (λ i. slotAt z img t i ≢ 0 → Q i) slots r
-  upto-skips {j} u r h e =
-      record {
-        low = h;
-        held = λ i hi full. ⊎-elim (λ (l : i < j). u .held i l full) (λ (l : j ≤ i). absurd (full (e i hi l))) (lt-or i j);
-      }
+      -- with the chunks that it covers
+      pub entry-says : (n : ℕ) → n ≡ chunksFor settings (e .keyLength) (e .valueLength) → EntryFits z img s t j → SlotSays z img (EntryFits z img s t j) t j (Fits c n)
+      entry-says n q f = (f, (chunk-is, chunks-is n q))
 
 -- ---- where a search ended
 
@@ -137,6 +120,15 @@ module _ (z : Shape) (img : List ℕ) (t j : ℕ) where
   unfolding keyAt
   key-part e q = key-cut img (e .keyAt) (e .keyLength) ∙ ap (keyOf img) q
 
+-- ---- a full slot: what its entry gave, with the equation that the answer is taken by
+
+module _ (z : Shape) (img : List ℕ) (s t j : ℕ) (r : Slot) (q : SlotSays z img (EntryFits z img s t j) t j r) where
+  pub entry-broken : r ≡ slot.Broken → SlotHolds z img s t j → ⊥
+  entry-broken e h = let n : SlotSays z img (EntryFits z img s t j) t j slot.Broken = subst (SlotSays z img (EntryFits z img s t j) t j) e q in n (h .0)
+
+  pub entry-told : (c n : ℕ) → r ≡ Fits c n → SlotSays z img (EntryFits z img s t j) t j (Fits c n)
+  entry-told c n e = subst (SlotSays z img (EntryFits z img s t j) t j) e q
+
 -- ---- the whole image
 
 module _ (z : Shape) (img : List ℕ) (im : Image z img) (tiersOf : ChainTiers z img) where
@@ -150,8 +142,6 @@ module _ (z : Shape) (img : List ℕ) (im : Image z img) (tiersOf : ChainTiers z
         keysOnce = λ s h. lands-once z img im s (tiersOf s h) (f s h) (l s h);
       }
 
-  pub slots-wrong : (Below segments (λ s. Every (chain z img s) (SlotsFit z img s)) → ⊥) → EntriesFit z img → ⊥
-  slots-wrong n e = n (λ s h t m. e .tiersFit s h t m .slotsFit)
-
-  pub lands-wrong : Below segments (λ s. Every (chain z img s) (SlotsFit z img s)) → (Below segments (Lands z img) → ⊥) → EntriesFit z img → ⊥
-  lands-wrong f n e = n (λ s h. all-land z img im s (tiersOf s h) (f s h) (e .keysOnce s h) (λ t m. e .tiersFit s h t m .reached))
+  pub entries-land : EntriesFit z img → Below segments (Lands z img)
+  entries-land e s h =
+      all-land z img im s (tiersOf s h) (λ t m. e .tiersFit s h t m .slotsFit) (e .keysOnce s h) (λ t m. e .tiersFit s h t m .reached)

@@ -3,20 +3,20 @@ use Prim.Native.Nat.{ℕ, _+_, _≤_, _<_}
 use mathlib.Core.List.{List}
 use mathlib.Core.Path.{_≡_}
 use mathlib.Core.Logic.{_≢_}
-use mathlib.Core.Bool.{Bool, true, false}
 use native.Mathlib.Decide.{decLe, decLt, ℕ-discrete}
 use Rattle.lists.specs.Decide.{both, implied, refuted, rule, someBelow}
 use Rattle.lists.specs.Quantify.{Below, Every, below?, every?}
 use Rattle.words.specs.Same.{same?}
 use Rattle.settings.specs.declared.Settings.{Settings}
-use Rattle.settings.specs.Rules.{Between}
 use Rattle.settings.specs.Decide.{between?}
 use Rattle.layout.specs.declared.Shape.{Shape}
 use Rattle.chains.specs.Chains.{chain}
 use Rattle.probe.specs.Ring.{dist}
 use Rattle.search.specs.declared.Found.the-variants.{At}
+use Rattle.search.specs.declared.rules.Slot.{Slot}
+use Rattle.search.specs.declared.rules.Slot.the-variants.{Fits}
+use Rattle.search.specs.declared.rules.Slot.the-variants as slot
 use Rattle.search.specs.Search.{search}
-use Rattle.entries.specs.declared.Entry.{Entry}
 use Rattle.entries.specs.declared.Stored.{Stored}
 use Rattle.entries.specs.declared.Stored.the-variants.{Whole, Broken}
 use Rattle.entries.specs.Keys.{KeyFits, segmentOf, lookupKey, start, slotKey, slotRest}
@@ -100,6 +100,15 @@ module _ (z : Shape) (img : List ℕ) where
 
   abbrev pub Lands : ℕ → Type 0
   Lands s = Every (chain z img s) LandsIn
+
+  -- what is asked of one full slot of a tier in segment s's chain
+  abbrev pub SlotHolds : ℕ → ℕ → ℕ → Type 0
+  SlotHolds s t j = EntryFits s t j × (search z img (keyAt t j) ≡ At t j)
+
+  -- a full slot of which P is asked: P holds, with the chunks of its entry, or does not
+  abbrev pub SlotSays : Type 0 → ℕ → ℕ → Slot → Type 0
+  SlotSays P t j (Fits c n) = P × ((c ≡ chunkOf z img t j) × (n ≡ chunksAt t j))
+  SlotSays P t j slot.Broken = P → ⊥
 
   pub record EntriesFit : Type 0 where
     pub tiersFit : Below segments (λ s. Every (chain z img s) (TierFits s))

@@ -6,7 +6,7 @@ use Rattle.layout.specs.Tiers.{tiers}
 use Rattle.chains.specs.Chains.{follow}
 use Rattle.chains.proofs.Along.{free-tiers}
 use Rattle.chunks.proofs.Through.{through-in, through-less, through-lost, through-all}
-use Rattle.chunks.proofs.Sums.{Freeing, free-starts, free-turns}
+use Rattle.chunks.proofs.Through.{Freeing, free-starts, free-turns}
 use Rattle.chunks.proofs.free_fits.Statement.{statement}
 use Rattle.chunks.proofs.free_fits.Tie as tie
 

@@ -1,0 +1,143 @@
+-- The entries of a tier's full slots, counted at their chunks one by one. Assumes nothing.
+use Prim.Native.Nat.{ℕ, suc, _+_, _≤_, _<_}
+use mathlib.Core.List.{List, [], _∷_, _++_, map, flatMap, List·Memᴰ, List·Memᴰ·head, Memᴰ·append-right}
+use mathlib.Core.Path.{_≡_, refl, ap, sym, _∙_, subst}
+use mathlib.Core.Logic.{⊎-elim, _≢_}
+use mathlib.Core.Bool.{true, false, not, false≢true}
+use native.Mathlib.Omega.{arith}
+use native.Mathlib.Numerals.{add-one}
+use lib.Dec.{eqb}
+use lib.ListN.{length, length-map, getD, take, drop, List·getD-eq-default}
+use lib.Seq.{take-suc, split-at, getD-take, length-take-le}
+use Rattle.lists.specs.Cases.{lt-or}
+use Rattle.lists.specs.Lists.{span, below}
+use Rattle.lists.specs.Quantify.{Every, every-none}
+use Rattle.lists.proofs.Members.{every-more}
+use Rattle.lists.proofs.Lists.{howMany-le, length-span}
+use Rattle.settings.specs.declared.Settings.{Settings}
+use Rattle.layout.specs.declared.Shape.{Shape}
+use Rattle.chains.specs.Walk.{tally, MetAtMost}
+use Rattle.chains.proofs.Tally.{tally-append, length-tally, getD-tally}
+use Rattle.entries.specs.declared.Live.{Live}
+use Rattle.entries.specs.Live.{slotAt, fullSlots, liveAt, liveIn}
+use Rattle.entries.proofs.LiveLists.{fullSlots-in}
+use Rattle.search.specs.declared.rules.Slot.{Slot}
+use Rattle.search.specs.declared.rules.Slot.the-variants.{Fits, Broken}
+use Rattle.search.specs.Rules.{SlotHolds, SlotSays}
+use Rattle.chunks.specs.Chunks.{covers}
+use Rattle.chunks.specs.Counting.{chunksOfEntry, chunksOfAll}
+use Rattle.chunks.proofs.Covering.{covered-by, chunksOfAll-more, map-more}
+use Rattle.contents.specs.Counting.{Lists, Covers}
+
+module _ (z : Shape) (img : List ℕ) (t : ℕ) {list : List ℕ} {full : ℕ} (l : Lists z img t list full) where
+  open Shape z using (settings)
+  open Settings settings using (slots)
+
+  long : length (take full list) ≡ full
+  long = length-take-le full list (l .within)
+
+  -- the i-th listed slot is one of the full slots
+  listed-in : (i : ℕ) → i < full → List·Memᴰ (getD list i 0) (fullSlots z img t)
+  listed-in i h =
+      let m : List·Memᴰ (getD (take full list) i 0) (take i (take full list) ++ getD (take full list) i 0 ∷ drop (suc i) (take full list)) =
+      Memᴰ·append-right (take i (take full list)) (List·Memᴰ·head {xs = drop (suc i) (take full list)} refl) in
+      let q : List·Memᴰ (getD (take full list) i 0) (take full list) = subst (List·Memᴰ (getD (take full list) i 0)) (sym (split-at (take full list) i 0 (omega (arith, long)))) m in
+      subst (List·Memᴰ (getD list i 0)) (l .are) (subst (λ (x : ℕ). List·Memᴰ x (take full list)) (getD-take full list i 0 h) q)
+
+  pub listed : (i : ℕ) → i < full → (getD list i 0 < slots) × (slotAt z img t (getD list i 0) ≢ 0)
+  listed i h = fullSlots-in z img t (getD list i 0) (listed-in i h)
+
+  pub full-is : full ≡ length (fullSlots z img t)
+  full-is = sym long ∙ ap length (l .are)
+
+  pub full-few : full ≤ slots
+  unfolding fullSlots
+  full-few = omega (arith, full-is, howMany-le (λ j. not (eqb (slotAt z img t j) 0)) (below slots), length-span 0 slots)
+
+module _ (z : Shape) (img : List ℕ) (s t : ℕ) (list : List ℕ) (full : ℕ) where
+  open Shape z using (settings)
+  open Settings settings using (slots, chunks)
+
+  abbrev liveUpto : ℕ → List Live
+  liveUpto i = map (liveAt z img s t) (take i list)
+
+  pub record Covering (before now : List ℕ) (i : ℕ) : Type 0 where
+    pub low : i ≤ full
+    pub held : Every (take i list) (SlotHolds z img s t)
+    pub counted : now ≡ tally before (chunksOfAll (liveUpto i))
+
+  pub covering-starts : (before : List ℕ) → Covering before before 0
+  unfolding chunksOfAll flatMap tally
+  covering-starts before = record { low = omega arith; held = every-none (SlotHolds z img s t); counted = refl }
+
+  module _ {before now : List ℕ} {i : ℕ} (w : Covering before now i) where
+    pub covering-long : length now ≡ length before
+    covering-long = ap length (w .counted) ∙ length-tally before (chunksOfAll (liveUpto i))
+
+    module _ (l : Lists z img t list full) where
+      -- no chunk is counted more often than there are slots
+      pub covering-small : MetAtMost before 0 → slots ≤ 4096 → MetAtMost now 4096
+      covering-small zeros f k =
+          ⊎-elim
+          (λ (h : k < length before).
+          omega (
+            arith,
+            ap (λ (r : List ℕ). getD r k 0) (w .counted),
+            getD-tally before (chunksOfAll (liveUpto i)) k h,
+            zeros k,
+            covered-by k (liveUpto i),
+            howMany-le (covers k) (liveUpto i),
+            length-map (take i list) (liveAt z img s t),
+            length-take-le i list (omega (arith, w .low, l .within)),
+            w .low,
+            full-few z img t l,
+          ))
+          (λ (h : length before ≤ k).
+          let q : length now ≤ k = omega (arith, covering-long) in
+          rw (List·getD-eq-default now 0 q) (omega arith))
+          (lt-or k (length before))
+
+      module _ (h : i < full) where
+        one-more : take (i + 1) list ≡ take i list ++ (getD list i 0 ∷ [])
+        one-more = ap (λ (k : ℕ). take k list) (add-one i) ∙ take-suc list i 0 (omega (arith, l .within))
+
+        -- what the slot's rules gave, with the equation that the answer is taken by
+        module _ (r : Slot) (q : SlotSays z img (SlotHolds z img s t (getD list i 0)) t (getD list i 0) r) where
+          pub covering-lost : r ≡ Broken → {after : List ℕ} → Covers z img s t before after false
+          covering-lost e =
+              record {
+                held = λ f. subst (SlotSays z img (SlotHolds z img s t (getD list i 0)) t (getD list i 0)) e q (f (getD list i 0) (listed-in z img t l i h));
+                counted = λ x. absurd (false≢true x);
+              }
+
+          module _ (c n : ℕ) (e : r ≡ Fits c n) where
+            told : SlotSays z img (SlotHolds z img s t (getD list i 0)) t (getD list i 0) (Fits c n)
+            told = subst (SlotSays z img (SlotHolds z img s t (getD list i 0)) t (getD list i 0)) e q
+
+            pub range-in : c + n ≤ chunks
+            range-in = omega (arith, told .0 .0 .rangeEnds, told .1 .0, told .1 .1)
+
+            pub covering-turns : {next : List ℕ} → next ≡ tally now (span c n) → Covering before next (i + 1)
+            unfolding liveAt
+            covering-turns {next} eq =
+                let live : liveUpto (i + 1) ≡ liveUpto i ++ (liveAt z img s t (getD list i 0) ∷ []) =
+                ap (map (liveAt z img s t)) one-more ∙ map-more (liveAt z img s t) (take i list) (getD list i 0) in
+                let same : span c n ≡ chunksOfEntry (liveAt z img s t (getD list i 0)) = rw (told .1 .0, told .1 .1) refl in
+                record {
+                  low = omega arith;
+                  held = rw one-more (every-more (take i list) (getD list i 0) (w .held) (told .0));
+                  counted =
+                      eq ∙ ap (λ (x : List ℕ). tally x (span c n)) (w .counted) ∙ ap (tally (tally before (chunksOfAll (liveUpto i)))) same ∙
+                      sym (tally-append before (chunksOfAll (liveUpto i)) (chunksOfEntry (liveAt z img s t (getD list i 0)))) ∙
+                      ap (tally before) (sym (ap chunksOfAll live ∙ chunksOfAll-more (liveUpto i) (liveAt z img s t (getD list i 0))));
+                }
+
+      pub covering-ends : full ≤ i → Covers z img s t before now true
+      unfolding liveIn
+      covering-ends h =
+          let e : i ≡ full = omega (arith, w .low) in
+          let all : take i list ≡ fullSlots z img t = ap (λ (k : ℕ). take k list) e ∙ l .are in
+          record {
+            held = subst (λ (x : List ℕ). Every x (SlotHolds z img s t)) all (w .held);
+            counted = λ _. w .counted ∙ ap (λ (x : List ℕ). tally before (chunksOfAll (map (liveAt z img s t) x))) all;
+          }

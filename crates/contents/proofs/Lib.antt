@@ -1,0 +1,6 @@
+pub mod Saying
+pub mod Gathering
+pub mod Covering
+pub mod OneTier
+pub mod Sums
+pub mod Answer

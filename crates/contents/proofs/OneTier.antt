@@ -1,0 +1,80 @@
+-- The rules of one tier, from what its loops found. Assumes nothing.
+use Prim.Native.Nat.{ℕ, _≤_, _<_}
+use mathlib.Core.List.{List}
+use mathlib.Core.Path.{_≡_, ap, sym, _∙_, subst}
+use native.Mathlib.Omega.{arith}
+use lib.ListN.{length, getD, replicate, length-replicate}
+use Rattle.lists.specs.Lists.{howMany}
+use Rattle.lists.specs.Quantify.{Every}
+use Rattle.settings.specs.declared.Settings.{Settings}
+use Rattle.layout.specs.declared.Shape.{Shape}
+use Rattle.layout.specs.Places.{get, lowPlace, countPlace}
+use Rattle.chains.specs.Walk.{tally}
+use Rattle.chains.proofs.Tally.{getD-tally}
+use Rattle.chains.proofs.Answer.{zeros-met}
+use Rattle.entries.specs.Live.{fullSlots, liveIn}
+use Rattle.entries.proofs.LiveLists.{fullSlots-in, in-fullSlots}
+use Rattle.search.specs.Rules.{SomeEmpty, SlotHolds}
+use Rattle.chunks.specs.declared.Compared.{Compared}
+use Rattle.chunks.specs.declared.Compared.the-variants.{Same, Differ}
+use Rattle.chunks.specs.Chunks.{covers, lowestClear, TierFits}
+use Rattle.chunks.specs.Counting.{chunksOfAll, MarksBelow}
+use Rattle.chunks.proofs.Covering.{covered-by}
+use Rattle.chunks.proofs.Marks.{marked-all}
+use Rattle.contents.specs.declared.Contents.the-variants.{Fit, BadChunks, BadEntries}
+use Rattle.contents.specs.Counting.{TierHolds, TierSays}
+
+module _ (z : Shape) (img : List ℕ) (s t : ℕ) where
+  open Shape z using (settings)
+  open Settings settings using (chunks)
+
+  -- ---- slots and entries
+
+  pub no-empty : (SomeEmpty z img t → ⊥) → TierSays z img s t BadEntries
+  no-empty n = record { so = λ f. n (f .slotsFit .someEmpty) }
+
+  pub slot-wrong : (Every (fullSlots z img t) (SlotHolds z img s t) → ⊥) → TierSays z img s t BadEntries
+  slot-wrong n =
+      record {
+        so = λ f. n (λ j m. let k = fullSlots-in z img t j m in (f .slotsFit .full j (k .0) (k .1), f .lands j (k .0) (k .1)));
+      }
+
+  pub holds : SomeEmpty z img t → Every (fullSlots z img t) (SlotHolds z img s t) → TierHolds z img s t
+  holds e f =
+      record {
+        slotsFit = record { someEmpty = e; full = λ j h full. f j (in-fullSlots z img t j h full) .0 };
+        lands = λ j h full. f j (in-fullSlots z img t j h full) .1;
+      }
+
+  -- ---- chunks and counters, where these hold
+
+  module _ (held : TierHolds z img s t) where
+    pub tier-wrong : (TierFits z img s t → ⊥) → TierSays z img s t BadChunks
+    tier-wrong n = record { so = (held, n) }
+
+    module _ (few : chunks ≤ 4096) {covered : List ℕ} (v : covered ≡ tally (replicate 4096 0) (chunksOfAll (liveIn z img s t))) where
+      counted : (i : ℕ) → i < chunks → getD covered i 0 ≡ howMany (liveIn z img s t) (covers i)
+      counted i h =
+          let l : i < length (replicate {A = ℕ} 4096 0) = rw length-replicate (omega arith) in
+          omega (
+            arith,
+            ap (λ (r : List ℕ). getD r i 0) v,
+            getD-tally (replicate 4096 0) (chunksOfAll (liveIn z img s t)) i l,
+            zeros-met 4096 i,
+            covered-by i (liveIn z img s t),
+          )
+
+      -- what comparing the counts with the bits gave, with the equation that it is taken by
+      module _ (r : Compared) (w : MarksBelow z img t covered chunks r) where
+        pub marks-wrong : r ≡ Differ → TierSays z img s t BadChunks
+        marks-wrong e =
+            let n : MarksBelow z img t covered chunks Differ = subst (MarksBelow z img t covered chunks) e w in
+            tier-wrong (λ f. n (λ i h. counted i h ∙ f .marks i h))
+
+        pub tier-right : (m : ℕ) → r ≡ Same m → {n : ℕ} → n ≡ length (fullSlots z img t) → get z img (countPlace z t) ≡ n → get z img (lowPlace z t) ≡ lowestClear z img t
+            → TierSays z img s t (Fit n m)
+        tier-right m e en c l =
+            let a : MarksBelow z img t covered chunks (Same m) = subst (MarksBelow z img t covered chunks) e w in
+            record {
+              so = ((held, record { marks = λ i h. sym (counted i h) ∙ a .0 i h; entryCount = c ∙ en; lowMark = l }), (en, a .1 ∙ marked-all z img t));
+            }

@@ -1,0 +1,188 @@
+-- The answers for a chain's tiers taken together, and for the chains one after the other. Assumes nothing.
+use Prim.Native.Nat.{ℕ, suc, _+_, _*_, _≤_, _<_}
+use mathlib.Core.List.{List, [], _∷_, _++_, flatMap, append-nil}
+use mathlib.Core.Path.{_≡_, refl, ap, sym, _∙_, subst}
+use mathlib.Core.Logic.{_≢_}
+use native.Mathlib.Omega.{arith}
+use native.Mathlib.Numerals.{add-one}
+use mathlib.Core.Bool.{not}
+use lib.Dec.{eqb}
+use lib.ListN.{length, length-append}
+use Rattle.lists.specs.Lists.{span, below, total}
+use Rattle.lists.specs.Quantify.{Below, Every, below-suc, every-none}
+use Rattle.lists.proofs.Members.{every-more, every-first, every-last}
+use Rattle.lists.proofs.Lists.{flatMap-append, flatMap-below, total-append, howMany-le, length-span}
+use Rattle.settings.specs.declared.Settings.{Settings}
+use Rattle.layout.specs.declared.Shape.{Shape}
+use Rattle.layout.specs.Tiers.{tiers}
+use Rattle.chains.specs.Chains.{nextOf, chain, ChainFits}
+use Rattle.chains.proofs.Follow.{length-follow}
+use Rattle.entries.specs.declared.Live.{Live}
+use Rattle.entries.specs.Live.{slotAt, fullSlots, liveIn, liveOf}
+use Rattle.entries.proofs.LiveLists.{length-liveIn}
+use Rattle.chunks.specs.Chunks.{markedIn, TierFits}
+use Rattle.chunks.proofs.Marks.{marked-all, marked-le}
+use Rattle.chunks.proofs.Through.{Through, through-starts, through-short, through-ends, through-turns}
+use Rattle.contents.specs.declared.Contents.{Contents}
+use Rattle.contents.specs.declared.Contents.the-variants.{Fit}
+use Rattle.contents.specs.Counting.{Says, joined, AtMost, TierHolds, TierSays, ChainSays, AllSay}
+use Rattle.contents.proofs.Saying.{both-say, says-as, says-small}
+
+module _ (z : Shape) (img : List ℕ) where
+  open Shape z using (settings)
+  open Settings settings using (segments, slots, chunks)
+
+  -- ---- the counts of some tiers, in a row
+
+  unfoldable pub liveOver : ℕ → List ℕ → ℕ
+  liveOver s ts = length (flatMap (liveIn z img s) ts)
+
+  unfoldable pub markedOver : List ℕ → ℕ
+  markedOver ts = total ts (markedIn z img)
+
+  none-live : (s : ℕ) → liveOver s [] ≡ 0
+  unfolding liveOver flatMap
+  none-live s = refl
+
+  none-marked : markedOver [] ≡ 0
+  unfolding markedOver total
+  none-marked = refl
+
+  more-live : (s : ℕ) (ts : List ℕ) (t : ℕ) → liveOver s (ts ++ (t ∷ [])) ≡ liveOver s ts + length (fullSlots z img t)
+  unfolding liveOver flatMap
+  more-live s ts t =
+      ap length (flatMap-append (liveIn z img s) ts (t ∷ []) ∙ ap (λ (r : List Live). flatMap (liveIn z img s) ts ++ r) (append-nil (liveIn z img s t))) ∙
+      (length-append (flatMap (liveIn z img s) ts) (liveIn z img s t) ∙ ap (λ (n : ℕ). length (flatMap (liveIn z img s) ts) + n) (length-liveIn z img s t))
+
+  more-marked : (ts : List ℕ) (t : ℕ) → markedOver (ts ++ (t ∷ [])) ≡ markedOver ts + markedIn z img t
+  unfolding markedOver total
+  more-marked ts t = omega (arith, total-append (markedIn z img) ts (t ∷ []))
+
+  module _ (fewSlots : slots ≤ 4096) (fewChunks : chunks ≤ 4096) where
+    full-few : (t : ℕ) → length (fullSlots z img t) ≤ 4096
+    unfolding fullSlots
+    full-few t = omega (arith, howMany-le (λ j. not (eqb (slotAt z img t j) 0)) (below slots), length-span 0 slots)
+
+    marked-few : (t : ℕ) → markedIn z img t ≤ 4096
+    marked-few t = omega (arith, marked-all z img t, marked-le z img t chunks)
+
+    live-bound : (s : ℕ) (ts : List ℕ) → liveOver s ts ≤ length ts * 4096
+    unfolding liveOver flatMap
+    live-bound s [] = omega arith
+    live-bound s (t ∷ ts) =
+        omega (arith, length-append (liveIn z img s t) (flatMap (liveIn z img s) ts), length-liveIn z img s t, full-few t, live-bound s ts)
+
+    marked-bound : (ts : List ℕ) → markedOver ts ≤ length ts * 4096
+    unfolding markedOver total
+    marked-bound [] = omega arith
+    marked-bound (t ∷ ts) = omega (arith, marked-few t, marked-bound ts)
+
+  -- ---- one chain
+
+  -- the tiers of done were met, and sum is their answers taken together
+  pub record Summing (s : ℕ) (sum : Contents) (t : ℕ) : Type 0 where
+    pub done : List ℕ
+    pub through : Through z img (λ _. Unit {0}) (chain z img s) done t
+    pub says : Says (Every done (TierHolds z img s)) (Every done (TierFits z img s)) (liveOver s done) (markedOver done) sum
+
+  pub summing-starts : (s : ℕ) → ChainFits z img s → Summing s (Fit 0 0) (s + 1)
+  unfolding chain
+  summing-starts s f =
+      rw (add-one s)
+      (record {
+        done = [];
+        through = through-starts z img (λ _. Unit {0}) (suc s) (f .ends);
+        says = record { so = ((every-none (TierHolds z img s), every-none (TierFits z img s)), (sym (none-live s), sym none-marked)) };
+      })
+
+  pub tier-small : (s t : ℕ) (r : Contents) → slots ≤ 4096 → chunks ≤ 4096 → TierSays z img s t r → AtMost 4294967296 r
+  tier-small s t r a b q = says-small 4294967296 (omega (arith, full-few a b t)) (omega (arith, marked-few a b t)) r q
+
+  module _ {s : ℕ} {sum : Contents} {t : ℕ} (w : Summing s sum t) where
+    pub summing-turns : t ≢ 0 → {tier next : Contents} → TierSays z img s t tier → next ≡ joined sum tier → {u : ℕ} → u ≡ nextOf z img t → Summing s next u
+    summing-turns ne {tier} {next} q e eu =
+        record {
+          done = w .done ++ (t ∷ []);
+          through = through-turns z img (w .through) ne eu tt;
+          says =
+              says-as
+              (λ p. every-more (w .done) t (p .0) (p .1)) (λ p. (every-first (w .done) t p, every-last (w .done) t p))
+              (λ p. every-more (w .done) t (p .0) (p .1)) (λ p. (every-first (w .done) t p, every-last (w .done) t p))
+              (sym (more-live s (w .done) t)) (sym (more-marked (w .done) t)) next (both-say e (w .says) q);
+        }
+
+    -- the counts so far are small
+    pub summing-small : slots ≤ 4096 → chunks ≤ 4096 → tiers z ≤ 1024 → AtMost 4294967296 sum
+    unfolding chain
+    summing-small a b c =
+        says-small 4294967296
+        (omega (arith, live-bound a b s (w .done), through-short z img (w .through), length-follow z img (tiers z) (suc s)))
+        (omega (arith, marked-bound a b (w .done), through-short z img (w .through), length-follow z img (tiers z) (suc s)))
+        sum (w .says)
+
+    pub summing-ends : t ≡ 0 → ChainSays z img s sum
+    unfolding liveOver markedOver liveOf
+    summing-ends e =
+        let d : w .done ≡ chain z img s = through-ends z img (w .through) e in
+        subst (λ (x : List ℕ). Says (Every x (TierHolds z img s)) (Every x (TierFits z img s)) (liveOver s x) (markedOver x) sum) d (w .says)
+
+  -- ---- the chains one after the other
+
+  -- the counts of the first s segments
+  abbrev liveFirst : ℕ → ℕ
+  liveFirst s = length (flatMap (liveOf z img) (below s))
+
+  abbrev markedFirst : ℕ → ℕ
+  markedFirst s = total (flatMap (chain z img) (below s)) (markedIn z img)
+
+  more-live-first : (s : ℕ) → liveFirst s + length (liveOf z img s) ≡ liveFirst (s + 1)
+  more-live-first s = sym (ap length (flatMap-below (liveOf z img) s) ∙ length-append (flatMap (liveOf z img) (below s)) (liveOf z img s))
+
+  more-marked-first : (s : ℕ) → markedFirst s + total (chain z img s) (markedIn z img) ≡ markedFirst (s + 1)
+  more-marked-first s =
+      sym (ap (λ (r : List ℕ). total r (markedIn z img)) (flatMap-below (chain z img) s) ∙ total-append (markedIn z img) (flatMap (chain z img) (below s)) (chain z img s))
+
+  module _ (fewSlots : slots ≤ 4096) (fewChunks : chunks ≤ 4096) (fewTiers : tiers z ≤ 1024) where
+    live-few : (s : ℕ) → length (liveOf z img s) ≤ 4194304
+    unfolding chain liveOver liveOf
+    live-few s = omega (arith, live-bound fewSlots fewChunks s (chain z img s), length-follow z img (tiers z) (suc s))
+
+    marks-few : (s : ℕ) → total (chain z img s) (markedIn z img) ≤ 4194304
+    unfolding chain markedOver
+    marks-few s = omega (arith, marked-bound fewSlots fewChunks (chain z img s), length-follow z img (tiers z) (suc s))
+
+    pub chain-small : (s : ℕ) (r : Contents) → ChainSays z img s r → AtMost 4294967296 r
+    chain-small s r q = says-small 4294967296 (omega (arith, live-few s)) (omega (arith, marks-few s)) r q
+
+  pub record AllSumming (sum : Contents) (s : ℕ) : Type 0 where
+    pub low : s ≤ segments
+    pub says : AllSay z img s sum
+    pub small : (liveFirst s ≤ s * 4194304) × (markedFirst s ≤ s * 4194304)
+
+  pub all-starts : AllSumming (Fit 0 0) 0
+  unfolding flatMap total span
+  all-starts =
+      record { low = omega arith; says = record { so = ((λ s h. absurd (omega arith), λ s h. absurd (omega arith)), (refl, refl)) }; small = omega arith }
+
+  -- asked of s + 1 segments, it is asked of the first s and of the last
+  first-below : (P : ℕ → Type 0) (s : ℕ) → Below (s + 1) P → Below s P × P s
+  first-below P s f = (λ i h. f i (omega arith), f s (omega arith))
+
+  module _ {sum : Contents} {s : ℕ} (w : AllSumming sum s) where
+    pub all-small : segments ≤ 256 → AtMost 4294967296 sum
+    all-small h = says-small 4294967296 (omega (arith, w .low, w .small)) (omega (arith, w .low, w .small)) sum (w .says)
+
+    pub all-turns : slots ≤ 4096 → chunks ≤ 4096 → tiers z ≤ 1024 → s < segments → {r next : Contents} → ChainSays z img s r → next ≡ joined sum r → AllSumming next (s + 1)
+    all-turns a b c h {r} {next} q e =
+        record {
+          low = omega arith;
+          says =
+              says-as
+              (λ p. rw (add-one s) (below-suc (λ s. Every (chain z img s) (TierHolds z img s)) s (p .0) (p .1))) (first-below (λ s. Every (chain z img s) (TierHolds z img s)) s)
+              (λ p. rw (add-one s) (below-suc (λ s. Every (chain z img s) (TierFits z img s)) s (p .0) (p .1))) (first-below (λ s. Every (chain z img s) (TierFits z img s)) s)
+              (more-live-first s) (more-marked-first s) next (both-say e (w .says) q);
+          small = omega (arith, w .small, more-live-first s, more-marked-first s, live-few a b c s, marks-few a b c s);
+        }
+
+    pub all-ends : segments ≤ s → AllSay z img segments sum
+    all-ends h = let e : s ≡ segments = omega (arith, w .low) in rw e at (w .says)

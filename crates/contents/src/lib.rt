@@ -1,0 +1,160 @@
+// What the tiers of an image hold: the rules of slots and entries and those of chunks and counters, tier by tier in one pass.
+use chunks::Compared;
+use layout::Shape;
+use search::rules::Slot;
+ghost use mathlib.Core.Path.{_≡_};
+ghost use Prim.Native.Nat.{_<_, _≤_};
+ghost use lib.ListN.{length};
+ghost use Rattle.lists.specs.Quantify.{Below};
+ghost use Rattle.layout.specs.Tiers.{IsTier};
+ghost use Rattle.layout.specs.Frame.{Framed};
+ghost use Rattle.chains.specs.Chains.{ChainFits, FreeChainFits, ChainsFit};
+ghost use Rattle.chains.specs.Walk.{MetAtMost};
+ghost use Rattle.search.specs.Search.{ChainTiers};
+ghost use Rattle.contents.specs.Contents.{contentsOf};
+ghost use Rattle.contents.specs.Counting.{joined as Counting·joined, AtMost, Lists, Covers, TierSays, ChainSays, AllSay, FreeSays};
+
+// All rules hold, with the live entries and the marked chunks; a rule of chunks or counters is broken; a rule of slots or entries is.
+pub enum Contents {
+    Fit(usize, usize),
+    BadChunks,
+    BadEntries,
+}
+
+// Two answers as one: a broken rule of slots or entries comes first.
+fn joined(a: Contents, b: Contents) -> Contents
+    requires { ⌜ AtMost 4294967296 a × AtMost 4294967296 b ⌝ }
+    ensures { λ r. ⌜ r ≡ Counting·joined a b ⌝ }
+{
+    match a {
+        Contents::BadEntries => Contents::BadEntries,
+        Contents::BadChunks => match b {
+            Contents::BadEntries => Contents::BadEntries,
+            Contents::BadChunks => Contents::BadChunks,
+            Contents::Fit(_, _) => Contents::BadChunks,
+        },
+        Contents::Fit(entries, marked) => match b {
+            Contents::BadEntries => Contents::BadEntries,
+            Contents::BadChunks => Contents::BadChunks,
+            Contents::Fit(n, m) => Contents::Fit(entries + n, marked + m),
+        },
+    }
+}
+
+// Lists the full slots of a tier; how many there are. Each slot is written, and kept only if it is full: a branch would be
+// mispredicted at every other slot.
+fn full_slots(z: Shape, img: &[u8], t: usize, list: &mut [u16]) -> usize
+    requires { ⌜ Framed z (length (now img)) × IsTier z t × (z .settings .slots ≤ length (now list)) ⌝ }
+    ensures { λ r. ⌜ Lists z (now (img .entry)) t (now (list .exit)) r ⌝ }
+{
+    let last = z.settings.slots - 1;
+    let mut n = 0;
+    let mut j = 0;
+    while j <= last {
+        list[n] = j as u16;
+        if layout::read::slot(z, img, t, j) != 0 {
+            n += 1;
+        }
+        j += 1;
+    }
+    n
+}
+
+// Whether each of the listed full slots of a tier meets the rules of slots and entries; counts their entries at their chunks.
+fn cover(
+    z: Shape,
+    img: &[u8],
+    s: usize,
+    t: usize,
+    list: &[u16],
+    full: usize,
+    covered: &mut [u16],
+) -> bool
+    requires { ⌜ Framed z (length (now img)) × ChainTiers z (now img) × (s < z .settings .segments) × IsTier z t × Lists z (now img) t (now list) full × (z .settings .chunks ≤ length (now covered)) × MetAtMost (now covered) 0 ⌝ }
+    ensures { λ r. ⌜ Covers z (now (img .entry)) s t (now (covered .entry)) (now (covered .exit)) r ⌝ }
+{
+    let mut i = 0;
+    while i < full {
+        let j = list[i] as usize;
+        let Slot::Fits(c, n) = search::rules::slot_fits(z, img, s, t, j) else {
+            return false;
+        };
+        chunks::count(covered, c, n);
+        i += 1;
+    }
+    true
+}
+
+// One tier of segment s's chain: its full slots and its marked chunks.
+fn tier_contents(z: Shape, img: &[u8], s: usize, t: usize) -> Contents
+    requires { ⌜ Framed z (length (now img)) × ChainTiers z (now img) × (s < z .settings .segments) × IsTier z t ⌝ }
+    ensures { λ r. ⌜ TierSays z (now (img .entry)) s t r ⌝ }
+{
+    if !search::rules::some_empty(z, img, t) {
+        return Contents::BadEntries;
+    }
+    let mut list = [0u16; 4096];
+    let full = full_slots(z, img, t, &mut list);
+    let mut covered = [0u16; 4096];
+    if !cover(z, img, s, t, &list, full, &mut covered) {
+        return Contents::BadEntries;
+    }
+    let Compared::Same(marked) = chunks::marks_agree(z, img, t, &covered) else {
+        return Contents::BadChunks;
+    };
+    if layout::read::count_of(z, img, t) != full as u64 {
+        return Contents::BadChunks;
+    }
+    let low = chunks::lowest_clear(z, img, t);
+    if layout::read::low_of(z, img, t) != low as u64 {
+        return Contents::BadChunks;
+    }
+    Contents::Fit(full, marked)
+}
+
+// The tiers of segment s's chain.
+fn chain_contents(z: Shape, img: &[u8], s: usize) -> Contents
+    requires { ⌜ Framed z (length (now img)) × ChainTiers z (now img) × (s < z .settings .segments) × ChainFits z (now img) s ⌝ }
+    ensures { λ r. ⌜ ChainSays z (now (img .entry)) s r ⌝ }
+{
+    let mut sum = Contents::Fit(0, 0);
+    let mut t = s + 1;
+    while t != 0 {
+        sum = joined(sum, tier_contents(z, img, s, t));
+        t = layout::read::next_of(z, img, t) as usize;
+    }
+    sum
+}
+
+// The tiers of all chains.
+fn chained_contents(z: Shape, img: &[u8]) -> Contents
+    requires { ⌜ Framed z (length (now img)) × ChainTiers z (now img) × Below (z .settings .segments) (ChainFits z (now img)) ⌝ }
+    ensures { λ r. ⌜ AllSay z (now (img .entry)) (z .settings .segments) r × AtMost 4294967296 r ⌝ }
+{
+    let mut sum = Contents::Fit(0, 0);
+    let mut s = 0;
+    while s < z.settings.segments {
+        sum = joined(sum, chain_contents(z, img, s));
+        s += 1;
+    }
+    sum
+}
+
+// The free tiers, which hold nothing.
+fn free_contents(z: Shape, img: &[u8]) -> Contents
+    requires { ⌜ Framed z (length (now img)) × FreeChainFits z (now img) ⌝ }
+    ensures { λ r. ⌜ FreeSays z (now (img .entry)) r ⌝ }
+{
+    if chunks::free_fits(z, img) {
+        return Contents::Fit(0, 0);
+    }
+    Contents::BadChunks
+}
+
+// What the tiers of an image hold whose chains fit.
+pub fn contents_of(z: Shape, img: &[u8]) -> Contents
+    requires { ⌜ Framed z (length (now img)) × ChainTiers z (now img) × ChainsFit z (now img) ⌝ }
+    ensures { λ r. ⌜ r ≡ contentsOf z (now (img .entry)) ⌝ }
+{
+    joined(chained_contents(z, img), free_contents(z, img))
+}
