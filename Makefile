@@ -17,11 +17,17 @@ demo:
 lib:
 	rt staticlib chronicle_map_c
 
-# Builds the example in C and looks up both pairs of the sample store.
+# Builds the examples in C, looks up both keys of the sample store, and asks for and sets delays by pair.
+CC99 = gcc -std=c99 -Wall -Wextra -Werror -Iinclude
 example: lib examples/pairs.store
-	gcc -std=c99 -Wall -Wextra -Werror -Iinclude examples/lookup.c target/staticlib/libchronicle_map_c.a -o target/lookup
+	$(CC99) examples/lookup.c target/staticlib/libchronicle_map_c.a -o target/lookup
+	$(CC99) examples/delay.c target/staticlib/libchronicle_map_c.a -o target/delay
 	target/lookup examples/pairs.store 1 2
 	target/lookup examples/pairs.store 2 1
+	target/delay examples/pairs.store 1 2
+	target/delay examples/pairs.store 2 1
+	target/delay examples/pairs.store 2 1 40
+	target/delay examples/pairs.store 31 32 -25
 
 # The lister's sample without the length between block and image.
 examples/pairs.store: crates/lister/stdin

@@ -4,41 +4,12 @@
  * a signed number of 4 bytes, little-endian, in microseconds.
  */
 #include "chronicle_map.h"
+#include "files.h"
 
 #include <inttypes.h>
 #include <stdio.h>
 #include <stdlib.h>
 #include <string.h>
-
-enum { BLOCK_LENGTH = 71 };
-
-/* The bytes of a file, with their number in *size, or NULL. */
-static uint8_t *read_file(const char *path, size_t *size)
-{
-    FILE *file = fopen(path, "rb");
-    uint8_t *bytes = NULL;
-    size_t room = 0, used = 0, got = 0;
-
-    if (file == NULL)
-        return NULL;
-    do {
-        if (used == room) {
-            uint8_t *larger = realloc(bytes, room = 2 * room + 4096);
-            if (larger == NULL)
-                break;
-            bytes = larger;
-        }
-        got = fread(bytes + used, 1, room - used, file);
-        used += got;
-    } while (got > 0);
-    if (ferror(file) || !feof(file)) {
-        free(bytes);
-        bytes = NULL;
-    }
-    fclose(file);
-    *size = used;
-    return bytes;
-}
 
 /* A microphone's number, 0 to 255, from a word in decimals. */
 static int microphone(const char *word, uint8_t *number)

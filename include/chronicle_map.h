@@ -2,25 +2,26 @@
  * A proved library over a lent Chronicle Map memory image.
  *
  * A call is given a settings block (71 bytes, which say how the image is laid out), the image, and what the
- * call is about: a key, a key and a record, or the number of an entry. It checks the block and the whole image
- * itself before it does anything else. It allocates nothing and keeps nothing between calls.
+ * call is about: a key, a key and a record, the number of an entry, or a pair of channels. It checks the block
+ * and the whole image itself before it does anything else. It allocates nothing and keeps nothing between calls.
  *
  * Link with target/staticlib/libchronicle_map_c.a (`make lib`; x86-64 Linux). What each function returns and
  * every byte that it leaves is proved, for any bytes: the contracts are in crates/chronicle_map_c/src/lib.rt.
  *
  * What a caller owes
  * ------------------
- *   - Each pointer points to as many readable bytes as the length beside it says, `image` of a store or a
- *     removal to as many writable ones, and an out array to room for its numbers, aligned as uint64_t is.
+ *   - Each pointer points to as many readable bytes as the length beside it says, `image` of a store, a removal
+ *     or a set to as many writable ones, an out array to room for its numbers, aligned as uint64_t is, and
+ *     `delay` of an ask to room for one number, aligned as int32_t is.
  *   - No pointer is null. A length of 0 may come with any other pointer.
- *   - The image of a store or a removal overlaps no other argument: a key or a record that stands in the image
- *     is copied out before it is given. An out array overlaps no other argument either. What is only read
- *     (`const`) may overlap what is only read.
+ *   - The image of a store, a removal or a set overlaps no other argument: a key or a record that stands in the
+ *     image is copied out before it is given. An out array and `delay` of an ask overlap no other argument
+ *     either. What is only read (`const`) may overlap what is only read.
  *   - While a call runs, nobody else writes to what it was given, and nobody else reads what it may write.
  *     Calls on different images may run at the same time, and so may calls that only read one image.
  *
- * Beyond that nothing is asked. The bytes may be any bytes, the lengths any lengths, and n any number: where
- * they are wrong the call says so by its number.
+ * Beyond that nothing is asked. The bytes may be any bytes, the lengths any lengths, and n, the channels and a
+ * delay any numbers: where they are wrong the call says so by its number.
  */
 #ifndef CHRONICLE_MAP_H
 #define CHRONICLE_MAP_H
@@ -33,12 +34,13 @@ extern "C" {
 #endif
 
 /*
- * The number that a call returns. The lowest of 2 to 9 that applies is given; only where none applies, 0, 1 or 10.
- * With any number but 0 the out array is all zeros and the image is as it was before the call.
+ * The number that a call returns. Of those that apply the first is given, in the order 2 to 8, 11, 12, 9; only
+ * where none of these applies, 0, 1 or 10. With any number but 0 the out array is all zeros, the delay of an ask
+ * is 0, and the image is as it was before the call.
  */
 enum {
     CHRONICLE_MAP_DONE = 0,    /* done, or found */
-    CHRONICLE_MAP_ABSENT = 1,  /* no such key (lookup, remove), or no such entry (entry) */
+    CHRONICLE_MAP_ABSENT = 1,  /* no such key (lookup, remove), entry (entry) or pair (delay) */
     CHRONICLE_MAP_BLOCK = 2,   /* the block's length, its length field or its version is wrong */
     CHRONICLE_MAP_FIELD = 3,   /* a field of the block breaks its rule */
     CHRONICLE_MAP_FRAME = 4,   /* the image's length, its offsets or its store size is wrong */
@@ -47,7 +49,9 @@ enum {
     CHRONICLE_MAP_CHUNKS = 7,  /* the marks of chunks or the counters do not fit the entries */
     CHRONICLE_MAP_KEY = 8,     /* the key is empty or longer than 1,024 bytes */
     CHRONICLE_MAP_VALUE = 9,   /* the record is longer than 65,535 bytes, or takes more chunks than an entry may */
-    CHRONICLE_MAP_FULL = 10    /* no tier has room for the entry, and none is free */
+    CHRONICLE_MAP_FULL = 10,   /* no tier has room for the entry, and none is free */
+    CHRONICLE_MAP_PAIR = 11,   /* a channel is not one of 1 to 32, or the two are equal */
+    CHRONICLE_MAP_DELAY = 12   /* the delay, given or stored, is INT32_MIN, or the stored record is not 4 bytes */
 };
 
 /*
@@ -93,6 +97,30 @@ uint32_t chronicle_map_remove(const uint8_t *block, size_t block_len,
 uint32_t chronicle_map_entry(const uint8_t *block, size_t block_len,
                              const uint8_t *image, size_t image_len,
                              uint64_t n, uint64_t row[7]);
+
+/*
+ * Delays by pair of channels, 1 to 32, in microseconds. A pair is kept once, under the key of two bytes with the
+ * smaller channel first; its record is the delay in that order, a signed number of 4 bytes, little-endian. The
+ * other order has the opposite delay. INT32_MIN has no opposite: no set stores it, and no ask gives it.
+ */
+
+/*
+ * Asks for the delay of channels a and b, in that order. Both orders of a pair, found with no edit between the
+ * two, sum to 0. Returns 0, 1 where nothing is stored under the pair's key, one of 2 to 7, 11, or 12 where
+ * another record than a delay is stored there.
+ */
+uint32_t chronicle_map_delay(const uint8_t *block, size_t block_len,
+                             const uint8_t *image, size_t image_len,
+                             uint32_t a, uint32_t b, int32_t *delay);
+
+/*
+ * Sets the delay of channels a and b, in that order, and so of both orders. It is a store of the pair's record
+ * under its key: what is there is replaced, and every other key keeps its record. Returns 0, one of 2 to 7, 11,
+ * 12 where the delay is INT32_MIN, 9 or 10.
+ */
+uint32_t chronicle_map_set_delay(const uint8_t *block, size_t block_len,
+                                 uint8_t *image, size_t image_len,
+                                 uint32_t a, uint32_t b, int32_t delay);
 
 /* The XXH64 hash of some bytes, with seed 0: the hash by which keys are placed. */
 uint64_t chronicle_map_xxh64(const uint8_t *bytes, size_t len);

@@ -106,6 +106,23 @@ FAULTS = [
   "    let map = accept(block, image)?;\n    check_key(key)?;\n    let settings", "    check_key(key)?;\n    let map = accept(block, image)?;\n    let settings"),
  ("XXH64 takes the short way at exactly 32 bytes", "hash.rs",
   "let start = if stripes.is_empty() {", "let start = if stripes.is_empty() || bytes.len() == 32 {"),
+ ("an ask forgets the sign of the other order", "pairs.rs", "    Ok(pair.turn(delay))", "    Ok(delay)"),
+ ("a pair's key has the larger channel first", "pairs.rs",
+  "key: [a.min(b) as u8, a.max(b) as u8],", "key: [a.max(b) as u8, a.min(b) as u8],"),
+ ("a set stores the most negative number", "pairs.rs", "    let delay = check_delay(delay)?;\n    edit::store", "    edit::store"),
+ ("an ask gives a stored most negative number", "pairs.rs",
+  "check_delay(i32::from_le_bytes(bytes))?;", "i32::from_le_bytes(bytes);"),
+ ("12 comes before 11", "pairs.rs",
+  "    let pair = Pair::of(a, b)?;\n    let delay = check_delay(delay)?;\n", "    let delay = check_delay(delay)?;\n    let pair = Pair::of(a, b)?;\n"),
+ ("9 and 10 come before 12", "pairs.rs",
+  "    let delay = check_delay(delay)?;\n    edit::store", "    if delay == NO_DELAY {\n        edit::store(block, &mut image.to_vec(), &pair.key, &[0; 4])?;\n    }\n    let delay = check_delay(delay)?;\n    edit::store"),
+ ("11 comes before the image's number", "pairs.rs",
+  "    accept(block, image)?;\n    let pair = Pair::of(a, b)?;\n    let [start", "    let pair = Pair::of(a, b)?;\n    accept(block, image)?;\n    let [start"),
+ ("channel 33 is accepted", "pairs.rs", "1..=32;", "1..=33;"),
+ ("only the low byte of a channel is looked at", "pairs.rs",
+  "        let known = CHANNELS", "        let (a, b) = (a & 0xFF, b & 0xFF);\n        let known = CHANNELS"),
+ ("a record longer than a delay is read", "pairs.rs",
+  "let bytes = record.try_into().map_err(|_| number::DELAY)?;", "let bytes = *record.first_chunk().ok_or(number::DELAY)?;"),
 ]
 
 def prepare():

@@ -1,10 +1,16 @@
-/* A libFuzzer target: every call on arbitrary bytes. The input is a length byte of the key, the key, the settings block (71 bytes) and the image.
+/* A libFuzzer target: every call on arbitrary bytes. The input is two channels and a delay (4 bytes each), a length byte of the key, the key,
+ * the settings block (71 bytes) and the image.
  * A call that refuses must leave the image as it was; one that is done must leave an image that the check accepts. */
 #include "chronicle_map.h"
 #include <stdlib.h>
 #include <string.h>
 
-enum { BLOCK = 71 };
+enum { BLOCK = 71, PAIR = 12 };
+
+struct pair {
+    uint32_t a, b;
+    int32_t delay;
+};
 
 static void need(int holds) {
     if (!holds) {
@@ -12,10 +18,10 @@ static void need(int holds) {
     }
 }
 
-/* An edit's answer, held to what the header says of it. */
-static void edited(uint32_t number, const uint8_t *block, const uint8_t *before, const uint8_t *after, size_t length) {
+/* An edit's answer, at most `most`, held to what the header says of it. */
+static void edited(uint32_t number, uint32_t most, const uint8_t *block, const uint8_t *before, const uint8_t *after, size_t length) {
     uint64_t counts[4];
-    need(number <= 10);
+    need(number <= most);
     if (number != 0) {
         need(memcmp(before, after, length) == 0);
     } else {
@@ -23,15 +29,53 @@ static void edited(uint32_t number, const uint8_t *block, const uint8_t *before,
     }
 }
 
+/* Both orders of a pair: the same number, and delays that sum to 0. Answers the number, and the delay of the first order. */
+static uint32_t ask(const uint8_t *block, const uint8_t *image, size_t length, const struct pair *p, int32_t *delay) {
+    int32_t other = 0x5a5a5a5a;
+    *delay = 0x5a5a5a5a;
+    uint32_t number = chronicle_map_delay(block, BLOCK, image, length, p->a, p->b, delay);
+    need(chronicle_map_delay(block, BLOCK, image, length, p->b, p->a, &other) == number);
+    need((int64_t)*delay + other == 0);
+    need(number == 0 || *delay == 0);
+    return number;
+}
+
+/* The numbers of an ask and a set: the check's, then 11, then 12, then the others. */
+static void in_order(uint32_t check, const struct pair *p, uint32_t asked, uint32_t set) {
+    int is_pair = p->a - 1 < 32 && p->b - 1 < 32 && p->a != p->b;
+    if (check != 0) {
+        need(asked == check && set == check);
+    } else if (!is_pair) {
+        need(asked == 11 && set == 11);
+    } else {
+        need(asked <= 1 || asked == 12);
+        need(p->delay == INT32_MIN ? set == 12 : set == 0 || set == 9 || set == 10);
+    }
+}
+
+/* An ask, a set, and an ask for what was set. */
+static void pairs(uint32_t check, const uint8_t *block, const uint8_t *image, uint8_t *copy, size_t length, const struct pair *p) {
+    int32_t delay;
+    uint32_t asked = ask(block, image, length, p, &delay);
+    uint32_t set = chronicle_map_set_delay(block, BLOCK, copy, length, p->a, p->b, p->delay);
+    in_order(check, p, asked, set);
+    edited(set, 12, block, image, copy, length);
+    if (set == 0) {
+        need(ask(block, copy, length, p, &delay) == 0 && delay == p->delay);
+    }
+}
+
 int LLVMFuzzerTestOneInput(const uint8_t *data, size_t size) {
-    if (size < 1 || size < 1 + (size_t)data[0] + BLOCK) {
+    if (size < PAIR + 1 || size < PAIR + 1 + (size_t)data[PAIR] + BLOCK) {
         return 0;
     }
-    size_t key_length = data[0];
-    const uint8_t *key = data + 1;
+    struct pair pair;
+    memcpy(&pair, data, PAIR);
+    size_t key_length = data[PAIR];
+    const uint8_t *key = data + PAIR + 1;
     const uint8_t *block = key + key_length;
     const uint8_t *image = block + BLOCK;
-    size_t length = size - 1 - key_length - BLOCK;
+    size_t length = size - PAIR - 1 - key_length - BLOCK;
     uint64_t counts[4], place[2], row[7];
     uint32_t number = chronicle_map_check(block, BLOCK, image, length, counts);
     uint32_t found = chronicle_map_lookup(block, BLOCK, image, length, key, key_length, place);
@@ -42,9 +86,11 @@ int LLVMFuzzerTestOneInput(const uint8_t *data, size_t size) {
     }
     uint8_t *copy = malloc(length + 1);
     memcpy(copy, image, length);
-    edited(chronicle_map_store(block, BLOCK, copy, length, key, key_length, key, key_length), block, image, copy, length);
+    edited(chronicle_map_store(block, BLOCK, copy, length, key, key_length, key, key_length), 10, block, image, copy, length);
     memcpy(copy, image, length);
-    edited(chronicle_map_remove(block, BLOCK, copy, length, key, key_length), block, image, copy, length);
+    edited(chronicle_map_remove(block, BLOCK, copy, length, key, key_length), 8, block, image, copy, length);
+    memcpy(copy, image, length);
+    pairs(number, block, image, copy, length, &pair);
     free(copy);
     return 0;
 }

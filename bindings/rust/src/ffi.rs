@@ -48,6 +48,24 @@ mod c {
             n: u64,
             row: *mut u64,
         ) -> u32;
+        pub fn chronicle_map_delay(
+            block: *const u8,
+            block_len: usize,
+            image: *const u8,
+            image_len: usize,
+            a: u32,
+            b: u32,
+            delay: *mut i32,
+        ) -> u32;
+        pub fn chronicle_map_set_delay(
+            block: *const u8,
+            block_len: usize,
+            image: *mut u8,
+            image_len: usize,
+            a: u32,
+            b: u32,
+            delay: i32,
+        ) -> u32;
         pub fn chronicle_map_xxh64(bytes: *const u8, len: usize) -> u64;
     }
 }
@@ -125,6 +143,38 @@ pub fn entry(block: &[u8], image: &[u8], n: u64, row: &mut [u64; 7]) -> u32 {
             image.len(),
             n,
             row.as_mut_ptr(),
+        )
+    }
+}
+
+/// An ask: its number; the delay is that of channels a and b, in that order.
+pub fn delay(block: &[u8], image: &[u8], a: u32, b: u32, delay: &mut i32) -> u32 {
+    // SAFETY: as in `check`.
+    unsafe {
+        c::chronicle_map_delay(
+            block.as_ptr(),
+            block.len(),
+            image.as_ptr(),
+            image.len(),
+            a,
+            b,
+            delay,
+        )
+    }
+}
+
+/// A set of a pair's delay: its number.
+pub fn set_delay(block: &[u8], image: &mut [u8], a: u32, b: u32, delay: i32) -> u32 {
+    // SAFETY: as in `check`.
+    unsafe {
+        c::chronicle_map_set_delay(
+            block.as_ptr(),
+            block.len(),
+            image.as_mut_ptr(),
+            image.len(),
+            a,
+            b,
+            delay,
         )
     }
 }

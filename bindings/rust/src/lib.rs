@@ -5,11 +5,13 @@
 //! A call that refuses leaves the image as it was.
 //!
 //! ```no_run
-//! # fn delay(block: &[u8], image: &mut [u8]) -> Result<(), chronicle_map::Refusal> {
+//! # fn calls(block: &[u8], image: &mut [u8]) -> Result<(), chronicle_map::Refusal> {
 //! chronicle_map::store(block, image, &[1, 2], &16i32.to_le_bytes())?;
 //! if let Some(record) = chronicle_map::record(block, image, &[1, 2])? {
 //!     println!("{record:?}");
 //! }
+//! chronicle_map::set_delay(block, image, 4, 3, -25)?;
+//! assert_eq!(chronicle_map::delay(block, image, 3, 4)?, Some(25));
 //! # Ok(())
 //! # }
 //! ```
@@ -23,7 +25,7 @@ use std::ops::Range;
 #[allow(unsafe_code)]
 pub mod ffi;
 
-/// Why a call refuses: the lowest that applies, in this order.
+/// Why a call refuses: the first that applies, in the order 2 to 8, 11, 12, 9, 10.
 #[derive(Clone, Copy, Debug, PartialEq, Eq, Hash)]
 pub enum Refusal {
     /// 2: the block's length, its length field or its version is wrong.
@@ -44,10 +46,14 @@ pub enum Refusal {
     Value = 9,
     /// 10: no tier has room for the entry, and none is free.
     Full = 10,
+    /// 11: a channel is not one of 1 to 32, or the two are equal.
+    Pair = 11,
+    /// 12: the delay, given or stored, is `i32::MIN`, or the stored record is not 4 bytes.
+    Delay = 12,
 }
 
 impl Refusal {
-    /// The number of the C interface, 2 to 10.
+    /// The number of the C interface, 2 to 12.
     pub fn number(self) -> u32 {
         self as u32
     }
@@ -63,6 +69,8 @@ impl Refusal {
             8 => Refusal::Key,
             9 => Refusal::Value,
             10 => Refusal::Full,
+            11 => Refusal::Pair,
+            12 => Refusal::Delay,
             other => unreachable!("the library's contracts allow no answer {other} here"),
         }
     }
@@ -80,6 +88,8 @@ impl fmt::Display for Refusal {
             Refusal::Key => "the key is empty or longer than 1,024 bytes",
             Refusal::Value => "the record is too long",
             Refusal::Full => "no tier has room for the entry",
+            Refusal::Pair => "a channel is not one of 1 to 32, or the two are equal",
+            Refusal::Delay => "the delay is the most negative number, or not 4 bytes",
         };
         write!(f, "refused {}: {reason}", self.number())
     }
@@ -156,7 +166,8 @@ pub fn record<'a>(block: &[u8], image: &'a [u8], key: &[u8]) -> Result<Option<&'
     Ok(lookup(block, image, key)?.map(|place| &image[place]))
 }
 
-/// Stores a record under a key, or replaces the one that is there. Every other key keeps its record. Refusals: all.
+/// Stores a record under a key, or replaces the one that is there. Every other key keeps its record.
+/// Refusals: `Block` to `Full`.
 pub fn store(block: &[u8], image: &mut [u8], key: &[u8], value: &[u8]) -> Result<(), Refusal> {
     match ffi::store(block, image, key, value) {
         0 => Ok(()),
@@ -192,6 +203,38 @@ pub fn entry(block: &[u8], image: &[u8], n: u64) -> Result<Option<Row>, Refusal>
             }))
         }
         1 => Ok(None),
+        number => Err(Refusal::of(number)),
+    }
+}
+
+/// The delay of channels a and b, in that order, in microseconds; `None` where nothing is stored under the pair's key.
+/// Refusals: `Block` to `Chunks`, `Pair`, `Delay`.
+///
+/// A pair is kept once, under the key of two bytes with the smaller channel first; its record is the delay in that order,
+/// as `i32::to_le_bytes` gives it. The other order has the opposite delay: both, found with no edit between the two, sum
+/// to 0.
+pub fn delay(block: &[u8], image: &[u8], a: u32, b: u32) -> Result<Option<i32>, Refusal> {
+    let mut delay = 0;
+    match ffi::delay(block, image, a, b, &mut delay) {
+        0 => Ok(Some(delay)),
+        1 => Ok(None),
+        number => Err(Refusal::of(number)),
+    }
+}
+
+/// Sets the delay of channels a and b, in that order, and so of both orders. Every other key keeps its record.
+/// Refusals: `Block` to `Chunks`, `Pair`, `Delay`, `Value`, `Full`.
+///
+/// `i32::MIN` has no opposite and is refused. What is stored under the pair's key, a delay or not, is replaced.
+pub fn set_delay(
+    block: &[u8],
+    image: &mut [u8],
+    a: u32,
+    b: u32,
+    delay: i32,
+) -> Result<(), Refusal> {
+    match ffi::set_delay(block, image, a, b, delay) {
+        0 => Ok(()),
         number => Err(Refusal::of(number)),
     }
 }

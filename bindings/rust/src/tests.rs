@@ -8,7 +8,8 @@ fn pairs() -> (&'static [u8], Vec<u8>) {
     (block, image.to_vec())
 }
 
-fn delay(block: &[u8], image: &[u8], key: [u8; 2]) -> Option<i32> {
+/// The record under a key, read as a delay.
+fn stored(block: &[u8], image: &[u8], key: [u8; 2]) -> Option<i32> {
     let bytes = record(block, image, &key).unwrap()?;
     Some(i32::from_le_bytes(bytes.try_into().unwrap()))
 }
@@ -32,9 +33,9 @@ fn each_key_finds_its_own_record() {
     let (block, image) = pairs();
     assert_eq!(lookup(block, &image, &[1, 2]), Ok(Some(236..240)));
     assert_eq!(lookup(block, &image, &[2, 1]), Ok(Some(244..248)));
-    assert_eq!(delay(block, &image, [1, 2]), Some(16));
-    assert_eq!(delay(block, &image, [2, 1]), Some(-16));
-    assert_eq!(delay(block, &image, [3, 1]), None);
+    assert_eq!(stored(block, &image, [1, 2]), Some(16));
+    assert_eq!(stored(block, &image, [2, 1]), Some(-16));
+    assert_eq!(stored(block, &image, [3, 1]), None);
 }
 
 #[test]
@@ -44,8 +45,8 @@ fn a_store_alters_its_own_key_alone() {
         store(block, &mut image, &[1, 2], &7i32.to_le_bytes()),
         Ok(())
     );
-    assert_eq!(delay(block, &image, [1, 2]), Some(7));
-    assert_eq!(delay(block, &image, [2, 1]), Some(-16));
+    assert_eq!(stored(block, &image, [1, 2]), Some(7));
+    assert_eq!(stored(block, &image, [2, 1]), Some(-16));
     assert_eq!(store(block, &mut image, &[3, 1], &[]), Ok(()));
     assert_eq!(record(block, &image, &[3, 1]), Ok(Some(&[][..])));
     assert_eq!(check(block, &image).map(|c| c.entries), Ok(3));
@@ -56,8 +57,8 @@ fn a_removal_says_whether_the_key_was_there() {
     let (block, mut image) = pairs();
     assert_eq!(remove(block, &mut image, &[1, 2]), Ok(true));
     assert_eq!(remove(block, &mut image, &[1, 2]), Ok(false));
-    assert_eq!(delay(block, &image, [1, 2]), None);
-    assert_eq!(delay(block, &image, [2, 1]), Some(-16));
+    assert_eq!(stored(block, &image, [1, 2]), None);
+    assert_eq!(stored(block, &image, [2, 1]), Some(-16));
 }
 
 #[test]
@@ -89,6 +90,11 @@ fn a_full_store_is_left_as_it_was() {
         store(block, &mut image, &[6, 1], &[0; 4]),
         Err(Refusal::Full)
     );
+    assert_eq!(set_delay(block, &mut image, 6, 7, 1), Err(Refusal::Full));
+    assert_eq!(
+        set_delay(block, &mut image, 6, 7, i32::MIN),
+        Err(Refusal::Delay)
+    );
     assert_eq!(image, before);
 }
 
@@ -118,6 +124,101 @@ fn refusals_by_number() {
     );
     assert_eq!(image, pairs().1);
     assert_eq!(Refusal::Full.number(), 10);
+    assert_eq!(Refusal::Pair.number(), 11);
+    assert_eq!(Refusal::Delay.number(), 12);
+}
+
+// The record under 2 1 is no part of the pair: it stays -16.
+#[test]
+fn both_orders_of_a_pair_have_opposite_delays() {
+    let (block, mut image) = pairs();
+    for (a, b, given, kept) in [
+        (1, 2, 7, 7),
+        (2, 1, 7, -7),
+        (2, 1, -25, 25),
+        (1, 2, 0, 0),
+        (1, 2, i32::MAX, i32::MAX),
+        (2, 1, i32::MAX, -i32::MAX),
+        (2, 1, -i32::MAX, i32::MAX),
+    ] {
+        assert_eq!(set_delay(block, &mut image, a, b, given), Ok(()));
+        assert_eq!(delay(block, &image, a, b), Ok(Some(given)));
+        assert_eq!(delay(block, &image, b, a), Ok(Some(-given)));
+        assert_eq!(stored(block, &image, [1, 2]), Some(kept));
+        assert_eq!(stored(block, &image, [2, 1]), Some(-16));
+    }
+}
+
+#[test]
+fn an_absent_pair_has_no_delay_until_it_is_set() {
+    let (block, mut image) = pairs();
+    for (a, b) in [(1, 32), (32, 1)] {
+        assert_eq!(delay(block, &image, a, b), Ok(None));
+    }
+    assert_eq!(set_delay(block, &mut image, 32, 1, -40), Ok(()));
+    assert_eq!(delay(block, &image, 1, 32), Ok(Some(40)));
+    assert_eq!(stored(block, &image, [1, 32]), Some(40));
+    assert_eq!(stored(block, &image, [32, 1]), None);
+    assert_eq!(remove(block, &mut image, &[1, 32]), Ok(true));
+    assert_eq!(delay(block, &image, 32, 1), Ok(None));
+}
+
+#[test]
+fn channels_out_of_range_or_equal_are_refused() {
+    let (block, mut image) = pairs();
+    for bad in [0, 33, 255, 256, 257, 0x1_0001, u32::MAX] {
+        for (a, b) in [(bad, 2), (2, bad), (bad, bad)] {
+            assert_eq!(delay(block, &image, a, b), Err(Refusal::Pair));
+            for given in [5, i32::MIN] {
+                let set = set_delay(block, &mut image, a, b, given);
+                assert_eq!(set, Err(Refusal::Pair));
+            }
+        }
+    }
+    assert_eq!(delay(block, &image, 2, 2), Err(Refusal::Pair));
+    assert_eq!(set_delay(block, &mut image, 2, 2, 0), Err(Refusal::Pair));
+    assert_eq!(image, pairs().1);
+}
+
+#[test]
+fn the_most_negative_number_is_never_set() {
+    let (block, mut image) = pairs();
+    for (a, b) in [(1, 2), (2, 1), (3, 4), (4, 3)] {
+        let set = set_delay(block, &mut image, a, b, i32::MIN);
+        assert_eq!(set, Err(Refusal::Delay));
+    }
+    assert_eq!(image, pairs().1);
+}
+
+#[test]
+fn a_stored_record_that_is_no_delay_is_refused_until_it_is_set() {
+    let (block, mut image) = pairs();
+    let most_negative = i32::MIN.to_le_bytes();
+    for record in [&[][..], &[1, 0, 0], &[1, 0, 0, 0, 0], &most_negative] {
+        assert_eq!(store(block, &mut image, &[1, 2], record), Ok(()));
+        let before = image.clone();
+        assert_eq!(delay(block, &image, 1, 2), Err(Refusal::Delay));
+        assert_eq!(delay(block, &image, 2, 1), Err(Refusal::Delay));
+        let set = set_delay(block, &mut image, 2, 1, i32::MIN);
+        assert_eq!(set, Err(Refusal::Delay));
+        assert_eq!(image, before);
+        assert_eq!(set_delay(block, &mut image, 2, 1, 9), Ok(()));
+        assert_eq!(delay(block, &image, 1, 2), Ok(Some(-9)));
+    }
+}
+
+#[test]
+fn a_damaged_image_is_refused_before_the_pair_and_the_delay() {
+    let (block, mut image) = pairs();
+    image[100] ^= 1;
+    let before = image.clone();
+    for (a, b) in [(1, 2), (0, 2), (2, 2)] {
+        assert_eq!(delay(block, &image, a, b), Err(Refusal::Entries));
+        let set = set_delay(block, &mut image, a, b, i32::MIN);
+        assert_eq!(set, Err(Refusal::Entries));
+        assert_eq!(delay(&[], &image, a, b), Err(Refusal::Block));
+    }
+    assert_eq!(image, before);
 }
 
 #[test]

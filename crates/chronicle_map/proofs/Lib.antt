@@ -8,3 +8,4 @@ pub mod Covered
 pub mod Keeping
 pub mod Altering
 pub mod Worked
+pub mod Laws

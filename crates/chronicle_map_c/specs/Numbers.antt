@@ -1,9 +1,11 @@
 -- What each exported function answers, in numbers, and the image on return.
 use Prim.Native.Nat.{ℕ}
 use mathlib.Core.List.{List}
+use lib.IntN.{ℤ}
 use Rattle.image.specs.Check.{check, verdictNumbers}
 use Rattle.image.specs.List.{entry, listedNumbers}
 use Rattle.chronicle_map.specs.Calls.{lookup, lookupNumbers, answerNumber, store, remove}
+use Rattle.pairs.specs.Delays.{delay, Reply, askedReply, setDelay, setNumber}
 
 -- ---- the number that is returned, then those of the out array
 
@@ -15,6 +17,10 @@ lookupAnswer block img key = lookupNumbers (lookup block img key)
 
 abbrev pub entryAnswer : List ℕ → List ℕ → ℕ → List ℕ
 entryAnswer block img n = listedNumbers (entry block img n)
+
+-- the number that is returned, and the delay that is written
+abbrev pub delayAnswer : List ℕ → List ℕ → ℕ → ℕ → Reply
+delayAnswer block img a b = askedReply (delay block img a b)
 
 -- ---- the number that is returned, and every byte of the image on return
 
@@ -29,3 +35,9 @@ removeAnswer block img key = answerNumber (remove block img key .answer)
 
 abbrev pub removeLeaves : List ℕ → List ℕ → List ℕ → List ℕ
 removeLeaves block img key = remove block img key .image
+
+abbrev pub setDelayAnswer : List ℕ → List ℕ → ℕ → ℕ → ℤ → ℕ
+setDelayAnswer block img a b d = setNumber (setDelay block img a b d .answer)
+
+abbrev pub setDelayLeaves : List ℕ → List ℕ → ℕ → ℕ → ℤ → List ℕ
+setDelayLeaves block img a b d = setDelay block img a b d .image

@@ -5,12 +5,15 @@ use chronicle_map::Located;
 use image::Listed;
 use image::Outcome;
 use image::Stage;
+use pairs::Asked;
+use pairs::SetAnswer;
 ghost use mathlib.Core.Path.{_≡_};
 ghost use mathlib.Core.List.{_∷_};
 ghost use Rattle.xxh64.specs.Hash.{xxh64 as Hash·xxh64};
 ghost use Rattle.image.specs.Check.{stageNumber};
 ghost use Rattle.chronicle_map.specs.Calls.{answerNumber};
-ghost use Rattle.chronicle_map_c.specs.Numbers.{checkAnswer, lookupAnswer, entryAnswer, storeAnswer, storeLeaves, removeAnswer, removeLeaves};
+ghost use Rattle.pairs.specs.Delays.{Reply, setNumber};
+ghost use Rattle.chronicle_map_c.specs.Numbers.{checkAnswer, lookupAnswer, entryAnswer, delayAnswer, storeAnswer, storeLeaves, removeAnswer, removeLeaves, setDelayAnswer, setDelayLeaves};
 
 fn stage_number(stage: Stage) -> u32
     ensures { λ r. ⌜ r ≡ stageNumber stage ⌝ }
@@ -35,6 +38,16 @@ fn answer_number(answer: Answer) -> u32
         Answer::Absent => 1,
         Answer::Full => 10,
         Answer::Refused(stage) => stage_number(stage),
+    }
+}
+
+fn set_number(answer: SetAnswer) -> u32
+    ensures { λ r. ⌜ r ≡ setNumber answer ⌝ }
+{
+    match answer {
+        SetAnswer::Stored(stored) => answer_number(stored),
+        SetAnswer::BadPair => 11,
+        SetAnswer::BadDelay => 12,
     }
 }
 
@@ -133,6 +146,56 @@ pub extern "C" fn chronicle_map_entry(block: &[u8], img: &[u8], n: u64, row: &mu
             stage_number(stage)
         }
     }
+}
+
+// The delay between two channels, in microseconds, from the first to the second; 0 where there is none.
+#[no_mangle]
+pub extern "C" fn chronicle_map_delay(
+    block: &[u8],
+    img: &[u8],
+    a: u32,
+    b: u32,
+    delay: &mut i32,
+) -> u32
+    ensures { λ r. ⌜ record { number = r; delay = now (delay .exit) } ≡ delayAnswer (now (block .entry)) (now (img .entry)) a b ⌝ }
+{
+    match pairs::delay(block, img, a, b) {
+        Asked::Found(d) => {
+            *delay = d;
+            0
+        }
+        Asked::Absent => {
+            *delay = 0;
+            1
+        }
+        Asked::BadPair => {
+            *delay = 0;
+            11
+        }
+        Asked::BadDelay => {
+            *delay = 0;
+            12
+        }
+        Asked::Refused(stage) => {
+            *delay = 0;
+            stage_number(stage)
+        }
+    }
+}
+
+// Sets the delay between two channels, from the first to the second, and with it the other order's.
+#[no_mangle]
+pub extern "C" fn chronicle_map_set_delay(
+    block: &[u8],
+    img: &mut [u8],
+    a: u32,
+    b: u32,
+    delay: i32,
+) -> u32
+    ensures { λ r. ⌜ r ≡ setDelayAnswer (now (block .entry)) (now (img .entry)) a b delay ⌝ }
+    ensures { λ _. ⌜ now (img .exit) ≡ setDelayLeaves (now (block .entry)) (now (img .entry)) a b delay ⌝ }
+{
+    set_number(pairs::set_delay(block, img, a, b, delay))
 }
 
 // XXH64 with seed 0.

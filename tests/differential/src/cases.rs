@@ -1,7 +1,8 @@
 //! One case: an image of one kind, and calls on it.
 
 use crate::blocks;
-use crate::compare::{self, Outcome, Pair, Tally};
+use crate::calls::all_calls;
+use crate::compare::{self, Outcome, Pair};
 use crate::damage::{DAMAGES, Scene, Verdict};
 use crate::defects::DEFECTS;
 use crate::draw;
@@ -10,6 +11,7 @@ use crate::model::Model;
 use crate::plan::Plan;
 use crate::rng::Rng;
 use crate::settings::Size;
+use crate::tally::Tally;
 
 pub fn run(rng: &mut Rng, tally: &mut Tally) -> Outcome<()> {
     hashes(rng, tally)?;
@@ -33,7 +35,11 @@ fn hashes(rng: &mut Rng, tally: &mut Tally) -> Outcome<()> {
 /// Plan, keys and a model of random contents.
 fn scene(rng: &mut Rng) -> (Plan, Vec<Vec<u8>>, Model) {
     let size = Size::random(rng);
-    let plan = Plan::random(rng, size);
+    let mut plan = Plan::random(rng, size);
+    if rng.percent(20) {
+        // The size of a pair's entry.
+        plan.limit_entries(8, rng.percent(50));
+    }
     scene_of(rng, plan)
 }
 
@@ -43,7 +49,10 @@ fn scene_of(rng: &mut Rng, plan: Plan) -> (Plan, Vec<Vec<u8>>, Model) {
         6..9 => rng.between(8, 40),
         _ => rng.between(30, 200),
     };
-    let keys = draw::keys(rng, &plan, count);
+    let keys = match rng.percent(50) {
+        true => draw::keys_with_pairs(rng, &plan, count),
+        false => draw::keys(rng, &plan, count),
+    };
     let model = Model::random(rng, &plan, &keys);
     (plan, keys, model)
 }
@@ -138,38 +147,6 @@ fn lowest(faults: &[(&str, Verdict)]) -> Verdict {
         }
     }
     Verdict::Is(lowest)
-}
-
-/// Every call with good and bad keys and values, on any image.
-fn all_calls(
-    rng: &mut Rng,
-    plan: &Plan,
-    keys: &[Vec<u8>],
-    pair: &mut Pair,
-    verdict: Verdict,
-) -> Outcome<()> {
-    let (number, _) = pair.check()?;
-    if let Verdict::Is(expected) = verdict
-        && number != expected
-    {
-        return Err(format!("check: both answer {number}, meant was {expected}"));
-    }
-    for _ in 0..2 {
-        pair.lookup(&draw::offered_key(rng, plan, keys))?;
-        let key = draw::offered_key(rng, plan, keys);
-        let value = draw::offered_value(rng, plan, key.len());
-        pair.store(&key, &value)?;
-        pair.remove(&draw::offered_key(rng, plan, keys))?;
-        pair.entry(rng.below(4) as u64)?;
-    }
-    let long = rng.bytes(1025);
-    pair.lookup(&long)?;
-    pair.remove(&[])?;
-    if rng.percent(5) {
-        pair.store(&long, &vec![0; 65_536])?;
-        pair.store(&[1], &vec![0; 65_536])?;
-    }
-    Ok(())
 }
 
 fn bad_block(rng: &mut Rng, tally: &mut Tally) -> Outcome<()> {

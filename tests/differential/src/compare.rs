@@ -1,67 +1,11 @@
 //! One call to both implementations at a time, on two copies of an image,
 //! with every number and every byte compared afterwards.
 
-use std::collections::BTreeMap;
-
-use crate::damage::DAMAGES;
-use crate::defects::DEFECTS;
 use crate::subject;
+use crate::tally::{CALLS, Tally};
 
 /// A difference, told in words.
 pub type Outcome<T> = Result<T, String>;
-
-pub const CALLS: [&str; 5] = ["check", "lookup", "store", "remove", "entry"];
-const NUMBERS: usize = 11;
-
-/// How often each number was answered, by call.
-#[derive(Default)]
-pub struct Tally {
-    pub counts: [[u64; NUMBERS]; 5],
-    pub hashes: u64,
-    /// How often each planned fault was made.
-    pub faults: BTreeMap<&'static str, u64>,
-}
-
-impl Tally {
-    fn note(&mut self, call: usize, number: u32) -> Outcome<()> {
-        let Some(count) = self.counts[call].get_mut(number as usize) else {
-            return Err(format!(
-                "{}: number {number} is none of 0 to 10",
-                CALLS[call]
-            ));
-        };
-        *count += 1;
-        Ok(())
-    }
-
-    /// A number that no call has answered, or a planned fault never made.
-    pub fn missing(&self) -> Option<String> {
-        let absent = |number: &usize| self.counts.iter().all(|counts| counts[*number] == 0);
-        let number = (0..NUMBERS).find(absent);
-        let damages = DAMAGES.iter().map(|(name, _)| name);
-        let mut faults = damages.chain(DEFECTS.iter().map(|(name, _)| name));
-        let fault = faults.find(|name| !self.faults.contains_key(*name));
-        let fault = fault.map(|name| name.to_string());
-        number.map(|number| format!("number {number}")).or(fault)
-    }
-
-    pub fn print(&self) {
-        let titles: String = CALLS.iter().map(|call| format!("{call:>10}")).collect();
-        println!("number{titles}");
-        for number in 0..NUMBERS {
-            let line: String = self
-                .counts
-                .iter()
-                .map(|counts| format!("{:>10}", counts[number]))
-                .collect();
-            println!("{number:>6}{line}");
-        }
-        println!("hashes {}", self.hashes);
-        for (fault, count) in &self.faults {
-            println!("{count:>6} times {fault}");
-        }
-    }
-}
 
 /// Bytes around the subject's image that it must leave alone.
 const GUARD: usize = 64;
@@ -137,6 +81,27 @@ impl<'a> Pair<'a> {
         self.settle_edit(3, &format!("removal of {}", short(key)), ours, theirs)
     }
 
+    pub fn delay(&mut self, a: u32, b: u32) -> Outcome<(u32, i32)> {
+        let ours = reference::delay(&self.block, &self.ours, a, b);
+        let theirs = subject::delay(&self.block, self.their_image(), a, b);
+        same(&format!("delay of {a} {b}"), ours, theirs)?;
+        self.settle(5, ours.0)?;
+        Ok(ours)
+    }
+
+    pub fn set_delay(&mut self, a: u32, b: u32, delay: i32) -> Outcome<u32> {
+        self.remember();
+        let ours = reference::set_delay(&self.block, &mut self.ours, a, b, delay);
+        let end = self.theirs.len() - GUARD;
+        let theirs = subject::set_delay(&self.block, &mut self.theirs[GUARD..end], a, b, delay);
+        self.settle_edit(6, &format!("set of {a} {b} to {delay}"), ours, theirs)
+    }
+
+    /// Counts that something planned for the pair calls came up.
+    pub fn met(&mut self, what: String) {
+        *self.tally.met.entry(what).or_default() += 1;
+    }
+
     fn remember(&mut self) {
         self.before.clone_from(&self.ours);
     }
@@ -164,7 +129,7 @@ impl<'a> Pair<'a> {
                 .position(|(a, b)| a != b)
                 .unwrap_or(0);
             let (our, their) = (self.ours[at], theirs[at]);
-            let call = CALLS[call];
+            let call = CALLS[call].0;
             return Err(format!(
                 "{call}: byte {at} is {our} by reference, {their} by subject"
             ));
@@ -174,7 +139,7 @@ impl<'a> Pair<'a> {
         if front.iter().chain(back).any(|&byte| byte != GUARD_BYTE) {
             return Err(format!(
                 "{}: bytes around the image are changed",
-                CALLS[call]
+                CALLS[call].0
             ));
         }
         Ok(())

@@ -1,5 +1,6 @@
 //! Keys and values: few enough to repeat, and at the limits now and then.
 
+use crate::channels;
 use crate::plan::Plan;
 use crate::rng::Rng;
 
@@ -49,6 +50,16 @@ pub fn keys(rng: &mut Rng, plan: &Plan, count: usize) -> Vec<Vec<u8>> {
     if taste.part_zero {
         keys.extend(key_of_part_zero(rng, plan));
     }
+    keys.sort();
+    keys.dedup();
+    rng.shuffle(&mut keys);
+    keys
+}
+
+/// The same, about half of them keys of two channels.
+pub fn keys_with_pairs(rng: &mut Rng, plan: &Plan, count: usize) -> Vec<Vec<u8>> {
+    let mut keys = channels::keys(rng, count.div_ceil(2));
+    keys.extend(self::keys(rng, plan, count / 2));
     keys.sort();
     keys.dedup();
     rng.shuffle(&mut keys);
@@ -127,6 +138,10 @@ pub fn offered_key(rng: &mut Rng, plan: &Plan, keys: &[Vec<u8>]) -> Vec<u8> {
 
 /// A value to offer under a key of some length; it may be too long.
 pub fn offered_value(rng: &mut Rng, plan: &Plan, key: usize) -> Vec<u8> {
+    // The key may be a pair's.
+    if key == 2 && rng.percent(60) {
+        return channels::record(rng);
+    }
     let most = plan.most_chunks;
     let chunks = rng.between(1, most);
     let exactly = |chunks| plan.longest_value(key, chunks).unwrap_or(0);

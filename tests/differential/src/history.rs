@@ -1,5 +1,7 @@
 //! Histories of calls on an accepted image, held against a plain map.
 
+mod pairs;
+
 use std::collections::BTreeMap;
 
 use crate::compare::{Outcome, Pair};
@@ -20,11 +22,13 @@ impl History<'_, '_> {
     pub fn run(&mut self, steps: usize) -> Outcome<()> {
         self.totals()?;
         let mut stores = 60;
+        let pair_calls = if self.has_pairs() { 40 } else { 0 };
         for _ in 0..steps {
             if self.rng.percent(4) {
                 stores = *self.rng.pick(&[20, 40, 60, 90]);
             }
             match self.rng.below(100) {
+                _ if self.rng.percent(pair_calls) => self.ask_or_set()?,
                 0..25 => self.lookup()?,
                 25..30 => self.totals()?,
                 30..34 => self.any_entry()?,
@@ -34,6 +38,7 @@ impl History<'_, '_> {
         }
         self.totals()?;
         self.all_records()?;
+        self.all_pairs()?;
         self.all_entries()
     }
 

@@ -4,7 +4,9 @@
 #![forbid(unsafe_code)]
 
 mod blocks;
+mod calls;
 mod cases;
+mod channels;
 mod compare;
 mod damage;
 mod defects;
@@ -17,12 +19,13 @@ mod render;
 mod rng;
 mod settings;
 mod subject;
+mod tally;
 
 use std::process::ExitCode;
 use std::sync::atomic::{AtomicU64, Ordering};
 
-use compare::Tally;
 use rng::Rng;
+use tally::Tally;
 
 const USAGE: &str = "differential [--seed N] [--count N] [--case N] [--trace]";
 const DEFAULT_SEED: u64 = 1;
@@ -64,8 +67,8 @@ fn main() -> ExitCode {
     conclude(&options, &tally)
 }
 
-/// A run of the default length or more must have met every number and made
-/// every planned fault.
+/// A run of the default length or more must have met every number of every
+/// call and all else that is planned.
 fn conclude(options: &Options, tally: &Tally) -> ExitCode {
     let whole = options.case.is_none() && options.count >= DEFAULT_COUNT;
     if let Some(missing) = tally.missing().filter(|_| whole) {

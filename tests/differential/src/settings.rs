@@ -158,6 +158,15 @@ impl Plan {
         self.bytes_after = gap(rng, 200);
     }
 
+    /// Lowers field 17 to what an entry of `size` bytes takes, or to a chunk
+    /// less, where that is still a setting.
+    pub fn limit_entries(&mut self, size: usize, fits: bool) {
+        let most = size.div_ceil(self.chunk_size) - usize::from(!fits);
+        if (1..self.most_chunks).contains(&most) {
+            self.most_chunks = most;
+        }
+    }
+
     fn most_bulks(&self, most_bytes: usize) -> usize {
         let by_count = (1024 - self.segments) / self.bulk_tiers;
         let by_size = most_bytes.saturating_sub(self.bulks_start() + 300) / self.bulk_size;

@@ -1,15 +1,15 @@
 //! The implementation under test, with the same calls as the reference.
 
 #[cfg(feature = "self-test")]
-pub use reference::{check, entry, lookup, remove, store, xxh64};
+pub use reference::{check, delay, entry, lookup, remove, set_delay, store, xxh64};
 
 #[cfg(not(feature = "self-test"))]
-pub use library::{check, entry, lookup, remove, store, xxh64};
+pub use library::{check, delay, entry, lookup, remove, set_delay, store, xxh64};
 
 #[cfg(not(feature = "self-test"))]
 mod library {
     use chronicle_map::ffi;
-    pub use chronicle_map::ffi::{remove, store, xxh64};
+    pub use chronicle_map::ffi::{remove, set_delay, store, xxh64};
 
     /// Stands in every number before a call: one that the library forgets
     /// to write shows.
@@ -28,5 +28,10 @@ mod library {
     pub fn entry(block: &[u8], image: &[u8], n: u64) -> (u32, [u64; 7]) {
         let mut row = [UNWRITTEN; 7];
         (ffi::entry(block, image, n, &mut row), row)
+    }
+
+    pub fn delay(block: &[u8], image: &[u8], a: u32, b: u32) -> (u32, i32) {
+        let mut delay = UNWRITTEN as i32;
+        (ffi::delay(block, image, a, b, &mut delay), delay)
     }
 }

@@ -1,5 +1,6 @@
 //! An independent implementation of the lent map image: check, lookup,
-//! store, remove and list, over a settings block and an image of any bytes.
+//! store, remove, list and delays by pair, over a settings block and an
+//! image of any bytes.
 //!
 //! Every call settles the whole image first (see [`check`]) and works on it
 //! afterwards without a further doubt: what the check has passed is indexed
@@ -15,6 +16,7 @@ mod edit;
 mod frame;
 mod hash;
 mod leb128;
+mod pairs;
 mod record;
 mod search;
 mod settings;
@@ -36,6 +38,8 @@ mod number {
     pub const KEY: u32 = 8;
     pub const VALUE: u32 = 9;
     pub const FULL: u32 = 10;
+    pub const PAIR: u32 = 11;
+    pub const DELAY: u32 = 12;
 }
 
 /// A number from [`number`] as the failure.
@@ -65,6 +69,19 @@ pub fn remove(block: &[u8], image: &mut [u8], key: &[u8]) -> u32 {
 /// the `n`-th live entry.
 pub fn entry(block: &[u8], image: &[u8], n: u64) -> (u32, [u64; 7]) {
     numbers(search::nth_entry(block, image, n))
+}
+
+/// The delay of channels `a` and `b`, in that order.
+pub fn delay(block: &[u8], image: &[u8], a: u32, b: u32) -> (u32, i32) {
+    match pairs::ask(block, image, a, b) {
+        Ok(delay) => (0, delay),
+        Err(number) => (number, 0),
+    }
+}
+
+/// Sets the delay of channels `a` and `b`, in that order.
+pub fn set_delay(block: &[u8], image: &mut [u8], a: u32, b: u32, delay: i32) -> u32 {
+    pairs::set(block, image, a, b, delay).err().unwrap_or(0)
 }
 
 /// XXH64 with seed 0.

@@ -2,28 +2,28 @@
 
 use crate::{check, entry, lookup, remove, store};
 
-const FIELDS: [u32; 17] = [0, 1, 32, 4, 4, 1, 4, 64, 8, 0, 8, 8, 200, 0, 1, 200, 4];
+pub const FIELDS: [u32; 17] = [0, 1, 32, 4, 4, 1, 4, 64, 8, 0, 8, 8, 200, 0, 1, 200, 4];
 const VALUE_1: [u8; 4] = [0x10, 0, 0, 0];
 const VALUE_2: [u8; 4] = [0xF0, 0xFF, 0xFF, 0xFF];
 
-fn block_of(fields: [u32; 17]) -> Vec<u8> {
+pub fn block_of(fields: [u32; 17]) -> Vec<u8> {
     let mut block = vec![0, 69, 1];
     block.extend(fields.iter().flat_map(|field| field.to_be_bytes()));
     block
 }
 
-fn block() -> Vec<u8> {
+pub fn block() -> Vec<u8> {
     block_of(FIELDS)
 }
 
-fn with(mut image: Vec<u8>, changes: &[(usize, &[u8])]) -> Vec<u8> {
+pub fn with(mut image: Vec<u8>, changes: &[(usize, &[u8])]) -> Vec<u8> {
     for (at, bytes) in changes {
         image[*at..at + bytes.len()].copy_from_slice(bytes);
     }
     image
 }
 
-fn store_x() -> Vec<u8> {
+pub fn store_x() -> Vec<u8> {
     let size = 496u64.to_le_bytes();
     with(
         vec![0; 496],
@@ -40,7 +40,7 @@ fn after_p2() -> Vec<u8> {
     )
 }
 
-fn after_p3() -> Vec<u8> {
+pub fn after_p3() -> Vec<u8> {
     let entry = [2, 2, 1, 4, 0xF0, 0xFF, 0xFF, 0xFF];
     let counters: &[u8] = &[2, 0, 0, 0, 2];
     with(
@@ -78,7 +78,7 @@ fn after_p5() -> Vec<u8> {
     with(after_p4(), &changes)
 }
 
-fn after_p6() -> Vec<u8> {
+pub fn after_p6() -> Vec<u8> {
     let entries = [2, 4, 1, 4, 7, 7, 7, 7, 2, 5, 1, 4, 6, 6, 6, 6];
     let changes: [(usize, &[u8]); 6] = [
         (304, &[3]),

@@ -1,0 +1,7 @@
+pub mod Numbers
+pub mod Orders
+pub mod Records
+pub mod Answering
+pub mod Mapped
+pub mod Signs
+pub mod Worked

@@ -1,0 +1,64 @@
+-- A list of asks and sets run over an image, and what is claimed of it.
+use Prim.Native.Nat.{ℕ, suc, _+_}
+use mathlib.Core.List.{List, [], _∷_, _++_}
+use mathlib.Core.Path.{_≡_}
+use mathlib.Core.Logic.{_≢_}
+use lib.ListN.{length, getD}
+use lib.IntN.{ℤ, pos, negℤ, _+ℤ_}
+use mir.Syntax.{w32}
+use mir.Val.{SFits}
+use Rattle.chronicle_map.specs.Demands.{Accepted}
+use Rattle.pairs.specs.Pairs.{pairKey}
+use Rattle.pairs.specs.Delays.{delay, Reply, askedReply, setDelay, setNumber}
+
+pub data PairCall : Type 0 where
+  asks : ℕ → ℕ → PairCall
+  sets : ℕ → ℕ → ℤ → PairCall
+
+-- what a set replies: its number, and no delay
+abbrev pub numbered : ℕ → Reply
+numbered n = record { number = n; delay = pos 0 }
+
+module _ (block : List ℕ) where
+  -- what one call replies, and the image as it leaves it
+  unfoldable pub replies : List ℕ → PairCall → Reply
+  replies img (asks a b) = askedReply (delay block img a b)
+  replies img (sets a b d) = numbered (setNumber (setDelay block img a b d .answer))
+
+  unfoldable pub pairLeaves : List ℕ → PairCall → List ℕ
+  pairLeaves img (asks a b) = img
+  pairLeaves img (sets a b d) = setDelay block img a b d .image
+
+  -- a list of calls, each on the image as the last one left it
+  unfoldable pub pairRun : List ℕ → List PairCall → List ℕ
+  pairRun img [] = img
+  pairRun img (c ∷ cs) = pairRun (pairLeaves img c) cs
+
+  unfoldable pub pairReplies : List ℕ → List PairCall → List Reply
+  pairReplies img [] = []
+  pairReplies img (c ∷ cs) = replies img c ∷ pairReplies (pairLeaves img c) cs
+
+  -- the reply to the i-th call of the list, i from 0
+  abbrev pub reply : List ℕ → List PairCall → ℕ → Reply
+  reply img calls i = getD (pairReplies img calls) i (numbered 1)
+
+-- no set of this pair, in either order, is among the calls; sets of other pairs may be
+abbrev pub NoSet : ℕ → ℕ → List PairCall → Type 0
+NoSet a b [] = Unit {0}
+NoSet a b (asks c d ∷ cs) = NoSet a b cs
+NoSet a b (sets c d x ∷ cs) = (pairKey c d ≢ pairKey a b) × NoSet a b cs
+
+pub record SignsKept (block img : List ℕ) (calls : List PairCall) : Type 0 where
+  pub accepted : Accepted block (pairRun block img calls)
+  -- two orders of a pair, both found with no set of it between the two, sum to zero
+  pub opposite : (a b : ℕ) (before between after : List PairCall) → calls ≡ before ++ asks a b ∷ between ++ asks b a ∷ after → NoSet a b between
+      → reply block img calls (length before) .number ≡ 0
+      → reply block img calls (length before + suc (length between)) .number ≡ 0
+      → reply block img calls (length before) .delay +ℤ reply block img calls (length before + suc (length between)) .delay ≡ pos 0
+  -- what is asked after a set of a 32-bit number answered 0, with no other set of the pair between, is what was set, with the sign of the order
+  pub sameOrder : (a b : ℕ) (d : ℤ) (before between after : List PairCall) → calls ≡ before ++ sets a b d ∷ between ++ asks a b ∷ after → SFits w32 d → NoSet a b between
+      → reply block img calls (length before) .number ≡ 0
+      → reply block img calls (length before + suc (length between)) ≡ record { number = 0; delay = d }
+  pub otherOrder : (a b : ℕ) (d : ℤ) (before between after : List PairCall) → calls ≡ before ++ sets a b d ∷ between ++ asks b a ∷ after → SFits w32 d → NoSet a b between
+      → reply block img calls (length before) .number ≡ 0
+      → reply block img calls (length before + suc (length between)) ≡ record { number = 0; delay = negℤ d }

@@ -1,0 +1,4 @@
+-- Signed delays by pair of channels, over the store.
+pub mod Pairs
+pub mod Delays
+pub mod History

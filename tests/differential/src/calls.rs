@@ -1,0 +1,62 @@
+//! Calls on any image, accepted or not.
+
+use crate::channels;
+use crate::compare::{Outcome, Pair};
+use crate::damage::Verdict;
+use crate::draw;
+use crate::plan::Plan;
+use crate::rng::Rng;
+
+/// Every call with good and bad keys and values, on any image.
+pub fn all_calls(
+    rng: &mut Rng,
+    plan: &Plan,
+    keys: &[Vec<u8>],
+    pair: &mut Pair,
+    verdict: Verdict,
+) -> Outcome<()> {
+    let (number, _) = pair.check()?;
+    if let Verdict::Is(expected) = verdict
+        && number != expected
+    {
+        return Err(format!("check: both answer {number}, meant was {expected}"));
+    }
+    for _ in 0..2 {
+        pair.lookup(&draw::offered_key(rng, plan, keys))?;
+        let key = draw::offered_key(rng, plan, keys);
+        let value = draw::offered_value(rng, plan, key.len());
+        pair.store(&key, &value)?;
+        pair.remove(&draw::offered_key(rng, plan, keys))?;
+        pair.entry(rng.below(4) as u64)?;
+        pair_calls(rng, keys, pair, number)?;
+    }
+    let long = rng.bytes(1025);
+    pair.lookup(&long)?;
+    pair.remove(&[])?;
+    if rng.percent(5) {
+        pair.store(&long, &vec![0; 65_536])?;
+        pair.store(&[1], &vec![0; 65_536])?;
+    }
+    Ok(())
+}
+
+/// An ask and a set. An image or a block that the check refuses comes before
+/// whatever is wrong with their arguments.
+fn pair_calls(rng: &mut Rng, keys: &[Vec<u8>], pair: &mut Pair, refused: u32) -> Outcome<()> {
+    let (a, b) = channels::offered(rng, keys);
+    let delay = channels::offered_delay(rng);
+    let (asked, _) = pair.delay(a, b)?;
+    let set = pair.set_delay(a, b, delay)?;
+    if refused == 0 {
+        return Ok(());
+    }
+    if (asked, set) != (refused, refused) {
+        return Err(format!(
+            "pair {a} {b}: both answer {asked} and {set}, the check {refused}"
+        ));
+    }
+    for later in channels::refusals(a, b, delay) {
+        pair.met(channels::before(refused, later));
+    }
+    Ok(())
+}

@@ -1,0 +1,84 @@
+//! What a run has met, and what a run of the default length must meet.
+
+use std::collections::BTreeMap;
+
+use crate::channels;
+use crate::compare::Outcome;
+use crate::damage::DAMAGES;
+use crate::defects::DEFECTS;
+
+/// The calls, and the numbers that each may answer.
+pub const CALLS: [(&str, &[u32]); 7] = [
+    ("check", &[0, 2, 3, 4, 5, 6, 7]),
+    ("lookup", &[0, 1, 2, 3, 4, 5, 6, 7, 8]),
+    ("store", &[0, 2, 3, 4, 5, 6, 7, 8, 9, 10]),
+    ("remove", &[0, 1, 2, 3, 4, 5, 6, 7, 8]),
+    ("entry", &[0, 1, 2, 3, 4, 5, 6, 7]),
+    ("delay", &[0, 1, 2, 3, 4, 5, 6, 7, 11, 12]),
+    ("set_delay", &[0, 2, 3, 4, 5, 6, 7, 9, 10, 11, 12]),
+];
+const NUMBERS: usize = 13;
+
+#[derive(Default)]
+pub struct Tally {
+    /// How often each number was answered, by call.
+    counts: [[u64; NUMBERS]; CALLS.len()],
+    pub hashes: u64,
+    /// How often each planned fault was made.
+    pub faults: BTreeMap<&'static str, u64>,
+    /// How often what is planned for the pair calls came up.
+    pub met: BTreeMap<String, u64>,
+}
+
+impl Tally {
+    pub fn note(&mut self, call: usize, number: u32) -> Outcome<()> {
+        let (name, numbers) = CALLS[call];
+        if !numbers.contains(&number) {
+            return Err(format!("{name}: number {number} is none of {numbers:?}"));
+        }
+        self.counts[call][number as usize] += 1;
+        Ok(())
+    }
+
+    /// A number that a call may answer and has not, or something planned
+    /// that did not come up.
+    pub fn missing(&self) -> Option<String> {
+        let calls = CALLS.iter().zip(&self.counts);
+        let numbers = calls.flat_map(|(&(name, numbers), counts)| {
+            let absent = numbers.iter().filter(|&&n| counts[n as usize] == 0);
+            absent.map(move |number| format!("number {number} of {name}"))
+        });
+        let damages = DAMAGES.iter().map(|(name, _)| *name);
+        let faults = damages.chain(DEFECTS.iter().map(|(name, _)| *name));
+        let faults = faults.filter(|name| !self.faults.contains_key(name));
+        let pairs = channels::planned().into_iter();
+        let pairs = pairs.filter(|name| !self.met.contains_key(name));
+        numbers
+            .chain(faults.map(str::to_string))
+            .chain(pairs)
+            .next()
+    }
+
+    pub fn print(&self) {
+        let titles: String = CALLS
+            .iter()
+            .map(|(call, _)| format!("{call:>10}"))
+            .collect();
+        println!("number{titles}");
+        for number in 0..NUMBERS {
+            let line: String = self
+                .counts
+                .iter()
+                .map(|counts| format!("{:>10}", counts[number]))
+                .collect();
+            println!("{number:>6}{line}");
+        }
+        println!("hashes {}", self.hashes);
+        for (fault, count) in &self.faults {
+            println!("{count:>6} times {fault}");
+        }
+        for (what, count) in &self.met {
+            println!("{count:>6} times {what}");
+        }
+    }
+}
