@@ -3,7 +3,7 @@ use Prim.Native.Nat.{ℕ}
 use mathlib.Core.List.{List, [], _∷_, List·Memᴰ}
 use mathlib.Core.Path.{_≡_, refl, ap, sym, _∙_, subst}
 use mathlib.Core.Logic.{_≢_}
-use mathlib.Core.Bool.{Bool, true, false, not, false≢true}
+use mathlib.Core.Bool.{Bool, true, false, not}
 use mathlib.Core.Option.{Option, none, some}
 use native.Mathlib.Omega.{arith}
 use lib.ListN.{length}
@@ -11,32 +11,29 @@ use borrow.Author.Tests.{not-true}
 use Rattle.lists.specs.Cases.{by-test}
 use Rattle.lists.specs.Lists.{first, those}
 use Rattle.lists.proofs.Members.{those-in, none-first}
-use Rattle.words.specs.Bytes.{Bytes, same}
+use Rattle.words.specs.Bytes.{Bytes}
 use Rattle.words.proofs.Bytes.{same-true, same-refl, same-false}
 use Rattle.settings.specs.declared.Settings.{Settings}
 use Rattle.settings.specs.Block.{settingsOf}
 use Rattle.layout.specs.declared.Shape.{Shape}
-use Rattle.layout.specs.Frame.{shapeOf}
 use Rattle.entries.specs.declared.Live.{Live}
 use Rattle.entries.specs.Keys.{KeyFits}
 use Rattle.entries.specs.Stored.{keyOf}
 use Rattle.entries.specs.Live.{live}
 use Rattle.upkeep.specs.Sound.{Pair, pairOf, pairsOf, SoundImage}
 use Rattle.image.specs.declared.Counts.{Counts}
-use Rattle.image.specs.declared.Stage.{Stage}
-use Rattle.image.specs.declared.Examined.{Examined}
-use Rattle.image.specs.declared.Examined.the-variants.{Ready, Refused}
+use Rattle.image.specs.declared.Examined.the-variants.{Ready}
 use Rattle.image.specs.Check.{countsOf, examine, verdictOf, check}
 use Rattle.image.proofs.Ready.{Sound, sound-ready, ready-sound}
-use Rattle.edit.specs.Edits.{find, noRoom}
+use Rattle.edit.specs.Edits.{find}
 use Rattle.edit.proofs.Finding.{found-only}
 use Rattle.edit.proofs.Replacing.{live-key-fits}
 use Rattle.entries.proofs.LiveLists.{live-in}
 use Rattle.chronicle_map.specs.declared.Located.the-variants as looked
 use Rattle.chronicle_map.specs.declared.Answer.the-variants as answer
-use Rattle.chronicle_map.specs.Asked.{aKey, anEntry, GivenKeyFits, givenKeyFits?, GivenValueFits, givenValueFits?, afterValue, afterKey, asked}
-use Rattle.chronicle_map.specs.Calls.{fromFind, lookedUp, lookup, Edited, answerNumber, removeFound, removing, remove, storeUnless, storing, store}
-use Rattle.chronicle_map.specs.History.{Call, Said, stores, removes, says, leaves, row10, Map, hasKey, mapOf, mapGet, mapDrop, mapSet, Recalled, mapRemove, mapStore, unlessValue, unlessKey, unless, recall}
+use Rattle.chronicle_map.specs.Asked.{aKey, anEntry, GivenKeyFits, givenKeyFits?, GivenValueFits, givenValueFits?, afterValue, afterKey}
+use Rattle.chronicle_map.specs.Calls.{fromFind, lookedUp, lookup, answerNumber, remove, store}
+use Rattle.chronicle_map.specs.History.{Said, stores, removes, says, leaves, row10, Map, hasKey, mapOf, mapGet, mapDrop, mapSet, mapRemove, mapStore, unlessValue, unlessKey, unless, recall}
 use Rattle.chronicle_map.specs.Demands.{Accepted, shape, Fits, LooksUp, Alters, Demand2}
 use Rattle.chronicle_map.proofs.Weights.{Weigh}
 use Rattle.chronicle_map.proofs.Accepting.{Holds, holds-shape, holds-accepted, accepted-ready, accepted-holds}
@@ -114,7 +111,7 @@ set-other : (m : Map) (key value other : List ℕ) → other ≢ key → mapGet 
 unfolding mapGet hasKey first
 set-other m key value other n = rw (same-false key other (λ (e : key ≡ other). n (sym e)), first) (drop-other m key other n)
 
--- ---- the map's answer 0, and an edit answered otherwise
+-- ---- the map's answer 0
 
 module _ (st : Settings) (m : Map) (key : List ℕ) where
   module _ (value : List ℕ) (row : Bool) where
@@ -145,25 +142,6 @@ module _ (st : Settings) (m : Map) (key : List ℕ) where
   unfolding unlessKey unlessValue givenValueFits?
   remove-zero (no n) e = absurd (omega arith)
   remove-zero (yes k) e = found-zero (mapGet m key) e
-
-module _ (img key : List ℕ) where
-  store-kept : (value : List ℕ) (x : Examined) → answerNumber (storing img key value x .answer) ≢ 0 → storing img key value x .image ≡ img
-  unfolding storing storeUnless
-  store-kept value (Refused s) n = refl
-  store-kept value (Ready z c) n = by-room (noRoom z img key value) n
-    where
-      by-room : (r : Bool) → answerNumber (storeUnless z img key value r .answer) ≢ 0 → storeUnless z img key value r .image ≡ img
-      by-room true n = refl
-      by-room false n = absurd (n refl)
-
-  remove-kept : (x : Examined) → answerNumber (removing img key x .answer) ≢ 0 → removing img key x .image ≡ img
-  unfolding removing removeFound
-  remove-kept (Refused s) n = refl
-  remove-kept (Ready z c) n = by-find (find z img key) n
-    where
-      by-find : (o : Option Live) → answerNumber (removeFound z img key o .answer) ≢ 0 → removeFound z img key o .image ≡ img
-      by-find none n = refl
-      by-find (some e) n = absurd (n refl)
 
 -- ---- a call on an accepted image
 
@@ -238,12 +216,9 @@ module _ (block img : List ℕ) (b : Bytes img) (a : Accepted block img) where
       alters (remove block img key .image) key (mapDrop (pairsOf z img) key) none (s .holds) (rw m at (s .weighs)) (drop-own (pairsOf z img) key) (drop-other (pairsOf z img) key)
 
   pub demand2 : Demand2 block img
-  unfolding store remove
   demand2 =
       record {
         lookups = looks-up;
         stored = stored;
         removed = removed;
-        storeRefused = λ key value n. store-kept img key value (asked block img (anEntry key value)) n;
-        removalRefused = λ key n. remove-kept img key (asked block img (aKey key)) n;
       }

@@ -1,27 +1,25 @@
 -- The calls' answers, as the code puts them together. Assumes nothing.
-use Prim.Native.Nat.{ℕ, _+_, _-_, _≤_, _<_}
-use mathlib.Core.List.{List, [], List·Memᴰ}
+use Prim.Native.Nat.{ℕ, _+_, _-_, _≤_}
+use mathlib.Core.List.{List}
 use mathlib.Core.Path.{_≡_, refl, ap, sym, _∙_, subst}
-use mathlib.Core.Logic.{_≢_}
 use mathlib.Core.Bool.{Bool, true, false}
 use mathlib.Core.Option.{Option, none, some}
 use native.Mathlib.Omega.{arith}
 use lib.ListN.{length, take, drop}
-use Rattle.words.specs.Bytes.{Bytes, cut}
-use Rattle.settings.specs.declared.Settings.{Settings}
+use denote.Ref.{RefT, now}
+use borrow.Rule.Slice.PartAt.{slPart}
+use Rattle.words.specs.Bytes.{Bytes}
 use Rattle.layout.specs.declared.Shape.{Shape}
 use Rattle.settings.specs.Rules.{largest}
-use Rattle.layout.specs.Tiers.{IsTier}
 use Rattle.entries.specs.declared.Entry.{Entry}
 use Rattle.entries.specs.declared.Live.{Live}
-use Rattle.entries.specs.Keys.{segmentOf}
-use Rattle.entries.specs.Live.{entryAt, liveAt, live}
-use Rattle.entries.proofs.LiveLists.{IsLive, live-in}
+use Rattle.entries.specs.Live.{entryAt, liveAt}
+use Rattle.entries.proofs.LiveLists.{live-in}
 use Rattle.search.specs.declared.Found.{Found}
 use Rattle.search.specs.declared.Found.the-variants.{At, Absent}
 use Rattle.search.specs.Search.{search}
 use Rattle.upkeep.specs.Sound.{SoundImage}
-use Rattle.edit.specs.Edits.{find, withoutEntry, without, noRoom, storeImage}
+use Rattle.edit.specs.Edits.{find, withoutEntry, without, noRoom}
 use Rattle.edit.specs.Replaced.{isThere, Stores}
 use Rattle.edit.proofs.Finding.{find-live, search-found, search-none}
 use Rattle.edit.proofs.Replacing.{live-value}
@@ -34,7 +32,7 @@ use Rattle.chronicle_map.specs.declared.Located.the-variants as located
 use Rattle.chronicle_map.specs.declared.Answer.{Answer}
 use Rattle.chronicle_map.specs.declared.Answer.the-variants as answer
 use Rattle.chronicle_map.specs.Asked.{aKey, anEntry, asked}
-use Rattle.chronicle_map.specs.Calls.{fromFind, lookedUp, lookup, recordAt, recordLength, recordBytes, Edited, removeFound, removing, remove, storeUnless, storing, store}
+use Rattle.chronicle_map.specs.Calls.{fromFind, lookedUp, lookup, recordAt, recordLength, PartOf, RecordOf, removeFound, removing, remove, storeUnless, storing, store}
 use Rattle.chronicle_map.proofs.Asking.{key-sound}
 
 -- ---- lookup
@@ -59,7 +57,8 @@ module _ (block img key : List ℕ) {x : Examined} (ex : x ≡ asked block img (
 
 -- ---- the record: a found one stands within the image
 
-found-by : (z : Shape) (img key : List ℕ) → SoundImage z img → (o : Option Live) → find z img key ≡ o → (at n : ℕ) → fromFind o ≡ located.Found at n → (at + n ≤ length img) × (length img ≤ largest)
+found-by : (z : Shape) (img key : List ℕ) → SoundImage z img → (o : Option Live) → find z img key ≡ o → (at n : ℕ)
+    → fromFind o ≡ located.Found at n → (at + n ≤ length img) × (length img ≤ largest)
 unfolding fromFind
 found-by z img key sound none f at n e = absurd (let q : _≡_ {A = ℕ} 0 1 = cc in omega arith)
 found-by z img key sound (some x) f at n e =
@@ -67,39 +66,54 @@ found-by z img key sound (some x) f at n e =
     let b : x .entry .valueLength ≡ n = cc in
     (omega (arith, live-value z img sound x (live-in z img x (find-live z img key x f .0))), sound .frame .imageLength .1)
 
-within-by : (block img key : List ℕ) → Bytes img → (x : Examined) → x ≡ asked block img (aKey key) → (at n : ℕ) → lookedUp img key x ≡ located.Found at n → (at + n ≤ length img) × (length img ≤ largest)
+within-by : (block img key : List ℕ) → Bytes img → (x : Examined) → x ≡ asked block img (aKey key) → (at n : ℕ)
+    → lookedUp img key x ≡ located.Found at n → (at + n ≤ length img) × (length img ≤ largest)
 unfolding lookedUp
 within-by block img key b (Refused s) ex at n e = absurd (let q : _≡_ {A = ℕ} 0 1 = cc in omega arith)
 within-by block img key b (Ready z c) ex at n e = found-by z img key (key-sound block img key z c ex refl b) (find z img key) refl at n e
 
-module _ (block img key : List ℕ) (r : Located) (er : r ≡ lookup block img key) where
-  pub record-within : Bytes img → (at n : ℕ) → r ≡ located.Found at n → (at + n ≤ length img) × (length img ≤ largest)
-  unfolding lookup
-  record-within b at n e = within-by block img key b (asked block img (aKey key)) refl at n (sym er ∙ e)
+pub record-within : (block img key : List ℕ) (r : Located) → r ≡ lookup block img key → Bytes img → (at n : ℕ) → r ≡ located.Found at n
+    → (at + n ≤ length img) × (length img ≤ largest)
+unfolding lookup
+record-within block img key r er b at n e = within-by block img key b (asked block img (aKey key)) refl at n (sym er ∙ e)
 
-  pub record-found : (at n : ℕ) → r ≡ located.Found at n → take (at + n - at) (drop at img) ≡ recordBytes img (lookup block img key)
-  unfolding recordBytes recordAt recordLength
-  record-found at n e =
-      let q : at + n - at ≡ n = omega arith in
-      ap (λ (k : ℕ). take k (drop at img)) q ∙ ap (recordBytes img) (sym e ∙ er)
+-- the part of a lent slice from place `at` up to place at + n
+part-of : (lent : RefT (List ℕ)) (at n γ : ℕ) → PartOf lent at n (slPart lent (at + lent .ptr .1) at (at + n) γ)
+part-of lent at n γ =
+    let q : at + n - at ≡ n = omega arith in
+    record { memory = refl; start = omega arith; bytes = ap (λ (k : ℕ). take k (drop at (now lent))) q }
 
-  pub record-absent : r ≡ located.Absent → take (0 - 0) (drop 0 img) ≡ recordBytes img (lookup block img key)
-  unfolding recordBytes recordAt recordLength
-  record-absent e = ap (recordBytes img) (sym e ∙ er)
+module _ (block : List ℕ) (img : RefT (List ℕ)) (key : List ℕ) (r : Located) (er : r ≡ lookup block (now img) key) where
+  -- the part that the code cuts off is the record of what it found
+  record-is : (l : Located) → r ≡ l → (γ : ℕ) → RecordOf img (lookup block (now img) key)
+      (slPart img (recordAt l + img .ptr .1) (recordAt l) (recordAt l + recordLength l) γ)
+  record-is l e γ =
+      subst (λ (x : Located). RecordOf img x (slPart img (recordAt l + img .ptr .1) (recordAt l) (recordAt l + recordLength l) γ)) (sym e ∙ er)
+      (part-of img (recordAt l) (recordLength l) γ)
 
-  pub record-refused : (s : Stage) → r ≡ located.Refused s → take (0 - 0) (drop 0 img) ≡ recordBytes img (lookup block img key)
-  unfolding recordBytes recordAt recordLength
-  record-refused s e = ap (recordBytes img) (sym e ∙ er)
+  pub record-found : (at n : ℕ) → r ≡ located.Found at n → (γ : ℕ) → RecordOf img (lookup block (now img) key) (slPart img (at + img .ptr .1) at (at + n) γ)
+  unfolding recordAt recordLength
+  record-found at n e γ = record-is (located.Found at n) e γ
+
+  pub record-absent : r ≡ located.Absent → (γ : ℕ) → RecordOf img (lookup block (now img) key) (slPart img (0 + img .ptr .1) 0 0 γ)
+  unfolding recordAt recordLength
+  record-absent e γ = record-is located.Absent e γ
+
+  pub record-refused : (s : Stage) → r ≡ located.Refused s → (γ : ℕ) → RecordOf img (lookup block (now img) key) (slPart img (0 + img .ptr .1) 0 0 γ)
+  unfolding recordAt recordLength
+  record-refused s e γ = record-is (located.Refused s) e γ
 
 -- ---- removal
 
 module _ (z : Shape) (img key : List ℕ) where
-  done-by : (o : Option Live) {img′ : List ℕ} → isThere o ≡ true → img′ ≡ without z img key → record { answer = answer.Done; image = img′ } ≡ removeFound z img key o
+  done-by : (o : Option Live) {img′ : List ℕ} → isThere o ≡ true → img′ ≡ without z img key
+      → record { answer = answer.Done; image = img′ } ≡ removeFound z img key o
   unfolding removeFound
   done-by none t e = absurd (let q : _≡_ {A = ℕ} 0 1 = cc in omega arith)
   done-by (some x) t e = λ i. record { answer = answer.Done; image = e i }
 
-  absent-by : (o : Option Live) {img′ : List ℕ} → find z img key ≡ o → isThere o ≡ false → img′ ≡ without z img key → record { answer = answer.Absent; image = img′ } ≡ removeFound z img key o
+  absent-by : (o : Option Live) {img′ : List ℕ} → find z img key ≡ o → isThere o ≡ false → img′ ≡ without z img key
+      → record { answer = answer.Absent; image = img′ } ≡ removeFound z img key o
   unfolding removeFound without withoutEntry
   absent-by none f t e = let g : without z img key ≡ img = ap (withoutEntry z img) f in λ i. record { answer = answer.Absent; image = (e ∙ g) i }
   absent-by (some x) f t e = absurd (let q : _≡_ {A = ℕ} 0 1 = cc in omega arith)
@@ -142,6 +156,7 @@ module _ (block img key value : List ℕ) {x : Examined} (ex : x ≡ asked block
   store-refused s e = ap (storing img key value) (sym e ∙ ex)
 
   pub store-ready : (z : Shape) (c : Counts) → x ≡ Ready z c → {r : Answer} {img′ : List ℕ}
-      → record { answer = r; image = img′ } ≡ storeUnless z img key value (noRoom z img key value) → record { answer = r; image = img′ } ≡ store block img key value
+      → record { answer = r; image = img′ } ≡ storeUnless z img key value (noRoom z img key value)
+      → record { answer = r; image = img′ } ≡ store block img key value
   unfolding store storing
   store-ready z c e er = er ∙ ap (storing img key value) (sym e ∙ ex)

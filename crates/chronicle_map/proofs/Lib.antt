@@ -6,6 +6,7 @@ pub mod Calling
 pub mod Steps
 pub mod Covered
 pub mod Keeping
+pub mod Refusing
 pub mod Altering
 pub mod Worked
 pub mod Laws

@@ -1,27 +1,22 @@
 -- One call on an accepted image: it answers what the map answers, and leaves an image and a map that agree again. Assumes nothing.
-use Prim.Native.Nat.{ℕ, _+_, _≤_}
-use mathlib.Core.List.{List, [], _∷_, List·Memᴰ}
-use mathlib.Core.Path.{_≡_, refl, ap, sym, _∙_, subst}
+use Prim.Native.Nat.{ℕ, _+_}
+use mathlib.Core.List.{List, []}
+use mathlib.Core.Path.{_≡_, refl, ap, sym, _∙_}
 use mathlib.Core.Bool.{Bool, true, false, not}
 use mathlib.Core.Option.{Option, none, some}
 use native.Mathlib.Omega.{arith}
-use lib.ListN.{length, getD}
-use Rattle.lists.specs.Lists.{those, total}
+use Rattle.lists.specs.Lists.{total}
 use Rattle.words.specs.Bytes.{Bytes, same}
-use Rattle.settings.specs.declared.Settings.{Settings}
 use Rattle.settings.specs.Block.{settingsOf}
 use Rattle.layout.specs.declared.Shape.{Shape}
 use Rattle.layout.specs.Frame.{shapeOf}
 use Rattle.entries.specs.declared.Live.{Live}
 use Rattle.upkeep.specs.Sound.{Pair, pairOf, pairsOf, SoundImage}
-use Rattle.image.specs.declared.Counts.{Counts}
-use Rattle.image.specs.declared.Stage.the-variants.{Key, Value}
 use Rattle.image.specs.declared.Examined.{Examined}
-use Rattle.image.specs.declared.Examined.the-variants.{Ready, Refused}
-use Rattle.image.specs.Check.{countsOf, examine}
-use Rattle.edit.specs.Edits.{find, without, noRoom, storeImage}
+use Rattle.image.specs.Check.{countsOf}
+use Rattle.edit.specs.Edits.{find, noRoom}
 use Rattle.chronicle_map.specs.Asked.{Given, aKey, anEntry, GivenKeyFits, givenKeyFits?, GivenValueFits, givenValueFits?, afterValue, afterKey, afterExamined, asked}
-use Rattle.chronicle_map.specs.Calls.{fromFind, lookedUp, lookup, lookupNumbers, recordAt, recordLength, recordBytes, Edited, answerNumber, removeFound, removing, remove, storeUnless, storing, store}
+use Rattle.chronicle_map.specs.Calls.{numberOf, fromFind, lookedUp, lookup, lookupNumbers, recordAt, recordLength, recordBytes, Edited, answerNumber, removeFound, removing, remove, storeUnless, storing, store}
 use Rattle.chronicle_map.specs.History.{Call, looksUp, stores, removes, Said, says, leaves, row10, Map, hasKey, mapGet, mapDrop, Recalled, mapLookup, mapRemove, mapStore, unlessValue, unlessKey, unless, recall}
 use Rattle.edit.proofs.Without.{without-sound, without-pairs}
 use Rattle.edit.proofs.Storing.{store-sound, store-pairs}
@@ -43,10 +38,10 @@ module _ (block img : List ℕ) (z : Shape) (h : Holds block img z) (m : Map) (w
   -- ---- lookup
 
   abbrev saysOf : Examined → List ℕ → Said
-  saysOf x key = record { number = getD (lookupNumbers (lookedUp img key x)) 0 0; bytes = recordBytes img (lookedUp img key x) }
+  saysOf x key = record { number = numberOf (lookupNumbers (lookedUp img key x)); bytes = recordBytes img (lookedUp img key x) }
 
   found-said : (key : List ℕ) (o : Option Live) → find z img key ≡ o
-      → record { number = getD (lookupNumbers (fromFind o)) 0 0; bytes = recordBytes img (fromFind o) } ≡ mapLookup m (mapGet m key) .said
+      → record { number = numberOf (lookupNumbers (fromFind o)); bytes = recordBytes img (fromFind o) } ≡ mapLookup m (mapGet m key) .said
   unfolding fromFind recordBytes recordAt recordLength mapLookup
   found-said key none f = rw (map-none z img (h .sound) m w key f)
   found-said key (some e) f = rw (map-found z img (h .sound) m w key e f)

@@ -1,8 +1,11 @@
 -- The calls: each says its whole answer and every byte of the image on return.
-use Prim.Native.Nat.{ℕ}
+use Prim.Native.Nat.{ℕ, _+_}
 use mathlib.Core.List.{List, [], _∷_}
+use mathlib.Core.Path.{_≡_}
 use mathlib.Core.Bool.{Bool, true, false}
 use mathlib.Core.Option.{Option, none, some}
+use lib.ListN.{getD}
+use denote.Ref.{RefT, now}
 use Rattle.words.specs.Bytes.{cut}
 use Rattle.entries.specs.declared.Live.{Live}
 use Rattle.layout.specs.declared.Shape.{Shape}
@@ -15,6 +18,10 @@ use Rattle.chronicle_map.specs.declared.Located.the-variants as looked
 use Rattle.chronicle_map.specs.declared.Answer.{Answer}
 use Rattle.chronicle_map.specs.declared.Answer.the-variants as answer
 use Rattle.chronicle_map.specs.Asked.{aKey, anEntry, asked}
+
+-- of the numbers of an answer, the first is document 01's number
+abbrev pub numberOf : List ℕ → ℕ
+numberOf ns = getD ns 0 0
 
 -- ---- lookup: the record of the live entry with this whole key
 
@@ -48,6 +55,16 @@ recordLength (looked.Refused s) = 0
 
 unfoldable pub recordBytes : List ℕ → Located → List ℕ
 recordBytes img l = cut img (recordAt l) (recordLength l)
+
+-- r is the part of a lent slice that has n bytes from place `at` on: in the same memory, `at` bytes after the slice's start
+pub record PartOf (lent : RefT (List ℕ)) (at n : ℕ) (r : RefT (List ℕ)) : Type 0 where
+  pub memory : r .ptr .0 ≡ lent .ptr .0
+  pub start : r .ptr .1 ≡ lent .ptr .1 + at
+  pub bytes : now r ≡ cut (now lent) at n
+
+-- r is the part of the image that the record is; without a record, the empty part at offset 0
+abbrev pub RecordOf : RefT (List ℕ) → Located → RefT (List ℕ) → Type 0
+RecordOf img l r = PartOf img (recordAt l) (recordLength l) r
 
 -- ---- edits: the answer, and the image on return
 

@@ -1,4 +1,4 @@
--- What is claimed of the calls: demand 2 for one call, demand 3 for a whole list of them.
+-- What is claimed of the calls: demands 1 and 2 for one call, demand 3 for a whole list of them.
 use Prim.Native.Nat.{ℕ, _≤_, _<_}
 use mathlib.Core.List.{List, [], _∷_, _++_, List·Memᴰ}
 use mathlib.Core.Path.{_≡_}
@@ -6,10 +6,9 @@ use mathlib.Core.Logic.{_≢_, _⊎_}
 use mathlib.Core.Bool.{Bool, _&&_}
 use mathlib.Core.Option.{Option, none, some}
 use lib.Dec.{eqb}
-use lib.ListN.{length}
+use lib.ListN.{length, drop, replicate}
 use Rattle.lists.specs.Lists.{howMany, total}
 use Rattle.words.specs.Bytes.{Bytes}
-use Rattle.settings.specs.declared.Settings.{Settings}
 use Rattle.settings.specs.Rules.{Valid}
 use Rattle.settings.specs.Block.{BlockFits, settingsOf}
 use Rattle.layout.specs.declared.Shape.{Shape}
@@ -19,17 +18,53 @@ use Rattle.layout.specs.Frame.{shapeOf, FrameFits}
 use Rattle.chains.specs.Chains.{chained, chainedExtra, freeChain, ChainsFit}
 use Rattle.entries.specs.declared.Live.{Live}
 use Rattle.entries.specs.Keys.{KeyFits}
-use Rattle.entries.specs.Stored.{keyOf, valueOf, chunksFor}
+use Rattle.entries.specs.Stored.{keyOf, chunksFor}
 use Rattle.entries.specs.Live.{live}
 use Rattle.search.specs.Rules.{EntriesFit}
 use Rattle.chunks.specs.Chunks.{covers, ChunksFit}
 use Rattle.upkeep.specs.Sound.{Pair}
 use Rattle.image.specs.declared.Counts.{Counts}
+use Rattle.image.specs.declared.Outcome.{Outcome}
 use Rattle.image.specs.declared.Outcome.the-variants as outcome
-use Rattle.image.specs.Check.{check}
+use Rattle.image.specs.declared.Listed.{Listed}
+use Rattle.image.specs.Check.{stageNumber, check, outcomeNumbers, verdictNumbers}
+use Rattle.image.specs.List.{entry, listedNumbers}
+use Rattle.chronicle_map.specs.declared.Located.{Located}
 use Rattle.chronicle_map.specs.declared.Located.the-variants as looked
-use Rattle.chronicle_map.specs.Calls.{lookup, Edited, answerNumber, remove, store}
+use Rattle.chronicle_map.specs.Calls.{numberOf, lookup, lookupNumbers, recordAt, recordLength, answerNumber, remove, store}
 use Rattle.chronicle_map.specs.History.{Call, looksUp, stores, removes, Map, hasKey, mapOf, mapGet, run, answers, told, mapAnswers, mapAfter}
+
+-- ---- demand 1, for every block, image, key and record
+
+-- the number is one of those that the call may answer, and where it is not 0 every other number is 0
+pub record Answers (may ns : List ℕ) : Type 0 where
+  pub allowed : List·Memᴰ (numberOf ns) may
+  pub zeros : numberOf ns ≢ 0 → drop 1 ns ≡ replicate (length (drop 1 ns)) 0
+
+-- two different answers never share a number other than 0
+abbrev pub Tells : {A : Type 0} → (A → ℕ) → Type 0
+Tells {A} number = (a b : A) → number a ≢ 0 → number a ≡ number b → a ≡ b
+
+pub record Demand1 (block img : List ℕ) : Type 0 where
+  pub checkAnswers : Answers (0 ∷ 2 ∷ 3 ∷ 4 ∷ 5 ∷ 6 ∷ 7 ∷ []) (verdictNumbers (check block img))
+  pub listAnswers : (n : ℕ) → Answers (0 ∷ 1 ∷ 2 ∷ 3 ∷ 4 ∷ 5 ∷ 6 ∷ 7 ∷ []) (listedNumbers (entry block img n))
+  pub lookupAnswers : (key : List ℕ) → Answers (0 ∷ 1 ∷ 2 ∷ 3 ∷ 4 ∷ 5 ∷ 6 ∷ 7 ∷ 8 ∷ []) (lookupNumbers (lookup block img key))
+  pub removalAnswers : (key : List ℕ) → Answers (0 ∷ 1 ∷ 2 ∷ 3 ∷ 4 ∷ 5 ∷ 6 ∷ 7 ∷ 8 ∷ []) (answerNumber (remove block img key .answer) ∷ [])
+  pub storeAnswers : (key value : List ℕ) → Answers (0 ∷ 2 ∷ 3 ∷ 4 ∷ 5 ∷ 6 ∷ 7 ∷ 8 ∷ 9 ∷ 10 ∷ []) (answerNumber (store block img key value .answer) ∷ [])
+  -- without a record, the part that `record` answers is the empty one at offset 0
+  pub noRecord : (key : List ℕ) → numberOf (lookupNumbers (lookup block img key)) ≢ 0
+      → (recordAt (lookup block img key) ≡ 0) × (recordLength (lookup block img key) ≡ 0)
+  -- an edit answered otherwise than 0 leaves every byte as it was
+  pub removalRefused : (key : List ℕ) → answerNumber (remove block img key .answer) ≢ 0 → remove block img key .image ≡ img
+  pub storeRefused : (key value : List ℕ) → answerNumber (store block img key value .answer) ≢ 0 → store block img key value .image ≡ img
+  -- each refusal has a number of its own
+  pub stagesTold : Tells stageNumber
+  pub checksTold : Tells (λ (v : Outcome). numberOf (outcomeNumbers v))
+  pub listsTold : Tells (λ (l : Listed). numberOf (listedNumbers l))
+  pub lookupsTold : Tells (λ (l : Located). numberOf (lookupNumbers l))
+  pub editsTold : Tells answerNumber
+
+-- ---- which images are accepted
 
 -- none of 2 to 7 applies
 abbrev pub Accepted : List ℕ → List ℕ → Type 0
@@ -73,13 +108,10 @@ pub record Alters (block img img′ key : List ℕ) (p : Option Pair) : Type 0 w
 
 pub record Demand2 (block img : List ℕ) : Type 0 where
   pub lookups : (key : List ℕ) → LooksUp block img key
-  -- a store or a removal answered 0 alters this key alone
+  -- a store or a removal answered 0 alters this key alone; one answered otherwise alters nothing (Demand1)
   pub stored : (key value : List ℕ) → Bytes key → Bytes value → answerNumber (store block img key value .answer) ≡ 0
       → Alters block img (store block img key value .image) key (some (record { key = key; value = value }))
   pub removed : (key : List ℕ) → Bytes key → answerNumber (remove block img key .answer) ≡ 0 → Alters block img (remove block img key .image) key none
-  -- one answered otherwise alters nothing
-  pub storeRefused : (key value : List ℕ) → answerNumber (store block img key value .answer) ≢ 0 → store block img key value .image ≡ img
-  pub removalRefused : (key : List ℕ) → answerNumber (remove block img key .answer) ≢ 0 → remove block img key .image ≡ img
 
 -- ---- demand 3, for an accepted image and any list of calls
 

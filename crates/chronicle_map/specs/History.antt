@@ -3,7 +3,6 @@ use Prim.Native.Nat.{ℕ}
 use mathlib.Core.List.{List, [], _∷_}
 use mathlib.Core.Bool.{Bool, true, false, not}
 use mathlib.Core.Option.{Option, none, some}
-use lib.ListN.{length, getD}
 use Rattle.lists.specs.Lists.{first, those}
 use Rattle.words.specs.Bytes.{same}
 use Rattle.settings.specs.declared.Settings.{Settings}
@@ -12,7 +11,7 @@ use Rattle.layout.specs.Frame.{shapeOf}
 use Rattle.upkeep.specs.Sound.{Pair, pairsOf}
 use Rattle.edit.specs.Edits.{noRoom}
 use Rattle.chronicle_map.specs.Asked.{Given, aKey, anEntry, GivenKeyFits, givenKeyFits?, GivenValueFits, givenValueFits?}
-use Rattle.chronicle_map.specs.Calls.{lookup, lookupNumbers, recordBytes, remove, store, answerNumber}
+use Rattle.chronicle_map.specs.Calls.{numberOf, lookup, lookupNumbers, recordBytes, remove, store, answerNumber}
 
 pub data Call : Type 0 where
   looksUp : List ℕ → Call
@@ -29,7 +28,7 @@ pub record Said : Type 0 where
 module _ (block : List ℕ) where
   -- what one call answers, and the image as it leaves it
   unfoldable pub says : List ℕ → Call → Said
-  says img (looksUp key) = record { number = getD (lookupNumbers (lookup block img key)) 0 0; bytes = recordBytes img (lookup block img key) }
+  says img (looksUp key) = record { number = numberOf (lookupNumbers (lookup block img key)); bytes = recordBytes img (lookup block img key) }
   says img (stores key value) = record { number = answerNumber (store block img key value .answer); bytes = [] }
   says img (removes key) = record { number = answerNumber (remove block img key .answer); bytes = [] }
 

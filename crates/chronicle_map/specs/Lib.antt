@@ -3,3 +3,4 @@ pub mod Calls
 pub mod History
 pub mod Demands
 pub mod Everything
+pub mod Worked

@@ -14,7 +14,7 @@ ghost use Rattle.edit.specs.Edits.{find, noRoom};
 ghost use Rattle.image.specs.Check.{check as Check·check};
 ghost use Rattle.image.specs.List.{entry as List·entry};
 ghost use Rattle.chronicle_map.specs.Asked.{ValueFits, aKey, anEntry, asked};
-ghost use Rattle.chronicle_map.specs.Calls.{fromFind, lookup as Calls·lookup, recordBytes, Edited, removeFound, remove as Calls·remove, storeUnless, store as Calls·store};
+ghost use Rattle.chronicle_map.specs.Calls.{fromFind, lookup as Calls·lookup, RecordOf, Edited, removeFound, remove as Calls·remove, storeUnless, store as Calls·store};
 
 // A lookup's answer: where the record stands and how long it is; none; a refusal.
 pub enum Located {
@@ -103,7 +103,7 @@ pub fn lookup(block: &[u8], img: &[u8], key: &[u8]) -> Located
 
 // The record itself, as a part of the image; the empty part at its start where there is none.
 pub fn record<'a>(block: &[u8], img: &'a [u8], key: &[u8]) -> &'a [u8]
-    ensures { λ r. ⌜ now r ≡ recordBytes (now (img .entry)) (Calls·lookup (now (block .entry)) (now (img .entry)) (now (key .entry))) ⌝ }
+    ensures { λ r. ⌜ RecordOf (img .entry) (Calls·lookup (now (block .entry)) (now (img .entry)) (now (key .entry))) r ⌝ }
 {
     match lookup(block, img, key) {
         Located::Found(at, n) => &img[at..at + n],

@@ -15,6 +15,7 @@ use Rattle.image.specs.Check.{check}
 use Rattle.chronicle_map.specs.Calls.{lookup, store, answerNumber}
 use Rattle.chronicle_map.specs.History.{mapOf, mapGet}
 use Rattle.chronicle_map.specs.Demands.{Accepted, Alters}
+use Rattle.chronicle_map.proofs.Refusing.{demand1}
 use Rattle.chronicle_map.proofs.Altering.{demand2}
 use Rattle.chronicle_map.proofs.Laws.{Looked, lookup-some, lookup-none, store-bytes}
 use Rattle.pairs.specs.declared.Asked.{Asked}
@@ -88,7 +89,7 @@ module _ (block img : List ℕ) (bytes : Bytes img) (accepted : Accepted block i
 
     not-stored : answerNumber (store block img (pairKey a b) value .answer) ≢ 0 → AfterSet block img a b d after
     not-stored m =
-        let e : store block img (pairKey a b) value .image ≡ img = demand2 block img bytes accepted .storeRefused (pairKey a b) value m in
+        let e : store block img (pairKey a b) value .image ≡ img = demand1 block img .storeRefused (pairKey a b) value m in
         subst (AfterSet block img a b d) (λ i. record { answer = set.Stored (store block img (pairKey a b) value .answer); image = sym e i }) (unchanged (set.Stored (store block img (pairKey a b) value .answer)) m)
 
   pub after-set : AfterSet block img a b d (setDelay block img a b d)

@@ -48,6 +48,11 @@ NoSet a b [] = Unit {0}
 NoSet a b (asks c d ∷ cs) = NoSet a b cs
 NoSet a b (sets c d x ∷ cs) = (pairKey c d ≢ pairKey a b) × NoSet a b cs
 
+-- whatever the two calls are given: with any number but 0 an ask's delay is 0, and a set leaves every byte as it was
+pub record Refusals (block img : List ℕ) : Type 0 where
+  pub askRefused : (a b : ℕ) → askedReply (delay block img a b) .number ≢ 0 → askedReply (delay block img a b) .delay ≡ pos 0
+  pub setRefused : (a b : ℕ) (d : ℤ) → setNumber (setDelay block img a b d .answer) ≢ 0 → setDelay block img a b d .image ≡ img
+
 pub record SignsKept (block img : List ℕ) (calls : List PairCall) : Type 0 where
   pub accepted : Accepted block (pairRun block img calls)
   -- two orders of a pair, both found with no set of it between the two, sum to zero

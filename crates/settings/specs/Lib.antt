@@ -1,3 +1,4 @@
 pub mod Rules
 pub mod Decide
 pub mod Block
+pub mod Worked

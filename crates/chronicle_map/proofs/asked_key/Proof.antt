@@ -7,31 +7,24 @@ use Rattle.chronicle_map.proofs.asked_key.Reads as reads
 use Rattle.chronicle_map.proofs.asked_key.Lts as lts
 use Rattle.image.proofs.examine.Reads as examine-reads
 
--- src/lib.rt:52:9
 examine-requires : tie.Need-examine-requires
 examine-requires c κs = search needs
 
--- src/lib.rt:53:25
 enum-known-examined : tie.Need-enum-known-examined
 enum-known-examined c = search needs
 
--- src/lib.rt:54:9
 enum-told : tie.Need-enum-told
 enum-told c = search needs
 
--- src/lib.rt:54:9
 returns : tie.Need-returns
 returns c = key-refused (c .before .before .before .before .before .before .args .block .now) (c .before .before .before .before .before .before .args .img .now) (c .before .before .before .before .before .before .args .key .now) (c .before .before .examine .result) (c .before .before .examine .ensures) (c .enum-told .given .0 .0) (c .enum-told .given .1)
 
--- src/lib.rt:57:9
 returns-2 : tie.Need-returns-2
 returns-2 c = key-short (c .before .before .before .before .before .before .before .before .args .block .now) (c .before .before .before .before .before .before .before .before .args .img .now) (c .before .before .before .before .before .before .before .before .args .key .now) (c .before .before .before .before .examine .result) (c .before .before .before .before .examine .ensures) (c .before .before .examined .given .0 .0) (c .before .before .examined .given .0 .1 .0) (c .before .before .examined .given .1) (c .if1 .taken)
 
--- src/lib.rt:60:9
 returns-3 : tie.Need-returns-3
 returns-3 c = key-long (c .before .before .before .before .before .before .before .before .before .args .block .now) (c .before .before .before .before .before .before .before .before .before .args .img .now) (c .before .before .before .before .before .before .before .before .before .args .key .now) (c .before .before .before .before .before .examine .result) (c .before .before .before .before .before .examine .ensures) (c .before .before .before .examined .given .0 .0) (c .before .before .before .examined .given .0 .1 .0) (c .before .before .before .examined .given .1) (c .if2 .taken)
 
--- src/lib.rt:49:1
 returns-4 : tie.Need-returns-4
 returns-4 c = key-right (c .before .before .before .before .before .before .before .before .before .args .block .now) (c .before .before .before .before .before .before .before .before .before .args .img .now) (c .before .before .before .before .before .before .before .before .before .args .key .now) (c .before .before .before .before .before .examine .result) (c .before .before .before .before .before .examine .ensures) (c .before .before .before .examined .given .0 .0) (c .before .before .before .examined .given .0 .1 .0) (c .before .before .before .examined .given .1) (omega (arith, c .before .if1 .left)) (omega (arith, c .if2 .left))
 

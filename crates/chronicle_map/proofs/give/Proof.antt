@@ -6,23 +6,18 @@ use Rattle.chronicle_map.proofs.give.Reads as reads
 use Rattle.chronicle_map.proofs.give.Lts as lts
 use Rattle.edit.proofs.store.Reads as store-reads
 
--- src/lib.rt:140:8
 store-requires : tie.Need-store-requires
 store-requires c κs = search needs
 
--- src/lib.rt:141:9
 same-length : tie.Need-same-length
 same-length c = search needs
 
--- src/lib.rt:141:9
 returns : tie.Need-returns
 returns c = given-done (c .before .before .before .before .before .before .before .before .args .z) (c .before .before .before .before .before .before .before .before .args .img .now) (c .before .before .before .before .before .before .before .before .args .key .now) (c .before .before .before .before .before .before .before .before .args .value .now) (c .before .before .before .store .result) (c .before .before .before .store .ensures) (c .if1 .taken)
 
--- src/lib.rt:136:1
 same-length-2 : tie.Need-same-length-2
 same-length-2 c = search needs
 
--- src/lib.rt:136:1
 returns-2 : tie.Need-returns-2
 returns-2 c = given-full (c .before .before .before .before .before .before .before .before .args .z) (c .before .before .before .before .before .before .before .before .args .img .now) (c .before .before .before .before .before .before .before .before .args .key .now) (c .before .before .before .before .before .before .before .before .args .value .now) (c .before .before .before .store .result) (c .before .before .before .store .ensures) (c .if1 .left)
 

@@ -3,77 +3,89 @@ use Rattle.chronicle_map.proofs.Calling.{record-within, record-found, r
 use borrow.Author.Needs.{needs}
 use Rattle.chronicle_map.proofs.record.Statement.{statement}
 use Rattle.chronicle_map.proofs.record.Tie as tie
-use Rattle.chronicle_map.proofs.record.Reads as reads
-use Rattle.chronicle_map.proofs.record.Lts as lts
-use Rattle.chronicle_map.proofs.lookup.Reads as lookup-reads
 
--- src/lib.rt:108:11
 lookup-requires : tie.Need-lookup-requires
 lookup-requires c κs = search needs
 
--- src/lib.rt:109:24
 enum-known-at : tie.Need-enum-known-at
 enum-known-at c = search needs
 
--- src/lib.rt:109:43
 add-result : tie.Need-add-result
-add-result c = omega (arith, record-within (c .before .before .before .before .before .before .before .args .block .now) (c .before .before .before .before .before .before .before .args .img .now) (c .before .before .before .before .before .before .before .args .key .now) (c .before .before .before .lookup .result) (c .before .before .before .lookup .ensures) (λ i. omega (arith, c .before .before .before .before .before .shared-slice-known2 .given i)) (c .before .at .given .0 .0) (c .before .at .given .0 .1 .0) (c .before .at .given .1))
+add-result c =
+    let at = c .before .at .given in
+    let p = c .before .before .before in let lookup = p .lookup in
+    let p = p .before .before in let bytes = p .shared-slice-known2 .given in
+    let start = p .before .before in
+    omega (
+      arith,
+      record-within (start .args .block .now) (start .args .img .now) (start .args .key .now) (lookup .result) (lookup .ensures)
+          (λ i. omega (arith, bytes i)) (at .0 .0) (at .0 .1 .0) (at .1),
+    )
 
--- src/lib.rt:109:34
 sub-result : tie.Need-sub-result
 sub-result c = search needs
 
--- src/lib.rt:109:34
 part-result-start : tie.Need-part-result-start
 part-result-start c = search needs
 
--- src/lib.rt:109:34
 part-result-end : tie.Need-part-result-end
-part-result-end c = omega (arith, record-within (c .before .before .before .before .before .before .before .args .block .now) (c .before .before .before .before .before .before .before .args .img .now) (c .before .before .before .before .before .before .before .args .key .now) (c .before .before .before .lookup .result) (c .before .before .before .lookup .ensures) (λ i. omega (arith, c .before .before .before .before .before .shared-slice-known2 .given i)) (c .before .at .given .0 .0) (c .before .at .given .0 .1 .0) (c .before .at .given .1))
+part-result-end c =
+    let at = c .before .at .given in
+    let p = c .before .before .before in let lookup = p .lookup in
+    let p = p .before .before in let bytes = p .shared-slice-known2 .given in
+    let start = p .before .before in
+    omega (
+      arith,
+      record-within (start .args .block .now) (start .args .img .now) (start .args .key .now) (lookup .result) (lookup .ensures)
+          (λ i. omega (arith, bytes i)) (at .0 .0) (at .0 .1 .0) (at .1),
+    )
 
--- src/lib.rt:110:28
 enum-told : tie.Need-enum-told
 enum-told c = search needs
 
--- src/lib.rt:110:28
 sub-result-2 : tie.Need-sub-result-2
 sub-result-2 c = search needs
 
--- src/lib.rt:110:28
 part-result-start-2 : tie.Need-part-result-start-2
 part-result-start-2 c = search needs
 
--- src/lib.rt:110:28
 part-result-end-2 : tie.Need-part-result-end-2
 part-result-end-2 c = search needs
 
--- src/lib.rt:111:32
 enum-told-2 : tie.Need-enum-told-2
 enum-told-2 c = search needs
 
--- src/lib.rt:111:32
 sub-result-3 : tie.Need-sub-result-3
 sub-result-3 c = search needs
 
--- src/lib.rt:111:32
 part-result-start-3 : tie.Need-part-result-start-3
 part-result-start-3 c = search needs
 
--- src/lib.rt:111:32
 part-result-end-3 : tie.Need-part-result-end-3
 part-result-end-3 c = search needs
 
--- src/lib.rt:105:1
 returns : tie.Need-returns
-returns c = record-found (c .before .before .before .before .before .before .before .before .args .block .now) (c .before .before .before .before .before .before .before .before .args .img .now) (c .before .before .before .before .before .before .before .before .args .key .now) (c .before .before .before .before .lookup .result) (c .before .before .before .before .lookup .ensures) (c .before .before .at .given .0 .0) (c .before .before .at .given .0 .1 .0) (c .before .before .at .given .1)
+returns c =
+    let p = c .before .before in let at = p .at in
+    let p = p .before .before in let lookup = p .lookup in
+    let start = p .before .before .before .before in
+    record-found (start .args .block .now) (start .args .img) (start .args .key .now) (lookup .result) (lookup .ensures) (at .given .0 .0)
+    (at .given .0 .1 .0) (at .given .1) (c .result .given .0)
 
--- src/lib.rt:105:1
 returns-2 : tie.Need-returns-2
-returns-2 c = record-absent (c .before .before .before .before .before .before .before .args .block .now) (c .before .before .before .before .before .before .before .args .img .now) (c .before .before .before .before .before .before .before .args .key .now) (c .before .before .before .lookup .result) (c .before .before .before .lookup .ensures) (c .before .enum-told .given .1)
+returns-2 c =
+    let p = c .before .before .before in let lookup = p .lookup in
+    let start = p .before .before .before .before in
+    record-absent (start .args .block .now) (start .args .img) (start .args .key .now) (lookup .result) (lookup .ensures)
+    (c .before .enum-told .given .1) (c .result2 .given .0)
 
--- src/lib.rt:105:1
 returns-3 : tie.Need-returns-3
-returns-3 c = record-refused (c .before .before .before .before .before .before .before .args .block .now) (c .before .before .before .before .before .before .before .args .img .now) (c .before .before .before .before .before .before .before .args .key .now) (c .before .before .before .lookup .result) (c .before .before .before .lookup .ensures) (c .before .enum-told2 .given .0 .0) (c .before .enum-told2 .given .1)
+returns-3 c =
+    let p = c .before in let enum-told2 = p .enum-told2 in
+    let p = p .before .before in let lookup = p .lookup in
+    let start = p .before .before .before .before in
+    record-refused (start .args .block .now) (start .args .img) (start .args .key .now) (lookup .result) (lookup .ensures)
+    (enum-told2 .given .0 .0) (enum-told2 .given .1) (c .result3 .given .0)
 
 pub record-spec : {M : Type 1} → statement M
 record-spec =

@@ -9,35 +9,27 @@ use Rattle.chronicle_map.proofs.remove.Lts as lts
 use Rattle.chronicle_map.proofs.asked_key.Reads as asked-key-reads
 use Rattle.chronicle_map.proofs.take.Reads as take-reads
 
--- src/lib.rt:129:11
 asked-key-requires : tie.Need-asked-key-requires
 asked-key-requires c κs = search needs
 
--- src/lib.rt:130:27
 enum-known-stage : tie.Need-enum-known-stage
 enum-known-stage c = search needs
 
--- src/lib.rt:131:25
 enum-known-z : tie.Need-enum-known-z
 enum-known-z c = search needs
 
--- src/lib.rt:131:34
 take-requires : tie.Need-take-requires
 take-requires c κs = key-sound (c .before .before .before .before .before .before .before .before .before .args .block .now) (c .before .before .before .before .before .before .before .before .before .args .img .now) (c .before .before .before .before .before .before .before .before .before .args .key .now) (c .before .before .z .given .0 .0) (c .before .before .z .given .0 .1 .0) (c .before .before .before .before .asked-key .ensures) (c .before .before .z .given .1) (λ i. omega (arith, c .before .before .before .before .before .before .before .slice-known .given i))
 
--- src/lib.rt:126:1
 same-length : tie.Need-same-length
 same-length c = search needs
 
--- src/lib.rt:126:1
 returns : tie.Need-returns
 returns c = remove-refused (c .before .before .before .before .before .before .before .before .args .block .now) (c .before .before .before .before .before .before .before .before .args .img .now) (c .before .before .before .before .before .before .before .before .args .key .now) (c .before .before .before .asked-key .ensures) (c .before .stage .given .0 .0) (c .before .stage .given .1)
 
--- src/lib.rt:126:1
 same-length-2 : tie.Need-same-length-2
 same-length-2 c = search needs
 
--- src/lib.rt:126:1
 returns-2 : tie.Need-returns-2
 returns-2 c = remove-ready (c .before .before .before .before .before .before .before .before .before .before .before .before .args .block .now) (c .before .before .before .before .before .before .before .before .before .before .before .before .args .img .now) (c .before .before .before .before .before .before .before .before .before .before .before .before .args .key .now) (c .before .before .before .before .before .before .before .asked-key .ensures) (c .before .before .before .before .before .z .given .0 .0) (c .before .before .before .before .before .z .given .0 .1 .0) (c .before .before .before .before .before .z .given .1) (c .before .before .take .ensures)
 

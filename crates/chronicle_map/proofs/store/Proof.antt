@@ -9,35 +9,27 @@ use Rattle.chronicle_map.proofs.store.Lts as lts
 use Rattle.chronicle_map.proofs.asked_entry.Reads as asked-entry-reads
 use Rattle.chronicle_map.proofs.give.Reads as give-reads
 
--- src/lib.rt:150:11
 asked-entry-requires : tie.Need-asked-entry-requires
 asked-entry-requires c κs = search needs
 
--- src/lib.rt:151:27
 enum-known-stage : tie.Need-enum-known-stage
 enum-known-stage c = search needs
 
--- src/lib.rt:152:25
 enum-known-z : tie.Need-enum-known-z
 enum-known-z c = search needs
 
--- src/lib.rt:152:34
 give-requires : tie.Need-give-requires
 give-requires c κs = let r = entry-ready (c .before .before .before .before .before .before .before .before .before .before .args .block .now) (c .before .before .before .before .before .before .before .before .before .before .args .img .now) (c .before .before .before .before .before .before .before .before .before .before .args .key .now) (c .before .before .before .before .before .before .before .before .before .before .args .value .now) (c .before .before .z .given .0 .0) (c .before .before .z .given .0 .1 .0) (c .before .before .before .before .asked-entry .ensures) (c .before .before .z .given .1) in (entry-sound (c .before .before .before .before .before .before .before .before .before .before .args .block .now) (c .before .before .before .before .before .before .before .before .before .before .args .img .now) (c .before .before .before .before .before .before .before .before .before .before .args .key .now) (c .before .before .before .before .before .before .before .before .before .before .args .value .now) (c .before .before .z .given .0 .0) (c .before .before .z .given .0 .1 .0) (c .before .before .before .before .asked-entry .ensures) (c .before .before .z .given .1) (λ i. omega (arith, c .before .before .before .before .before .before .before .before .slice-known .given i)), r .keyFits, r .valueFits)
 
--- src/lib.rt:147:1
 same-length : tie.Need-same-length
 same-length c = search needs
 
--- src/lib.rt:147:1
 returns : tie.Need-returns
 returns c = store-refused (c .before .before .before .before .before .before .before .before .before .args .block .now) (c .before .before .before .before .before .before .before .before .before .args .img .now) (c .before .before .before .before .before .before .before .before .before .args .key .now) (c .before .before .before .before .before .before .before .before .before .args .value .now) (c .before .before .before .asked-entry .ensures) (c .before .stage .given .0 .0) (c .before .stage .given .1)
 
--- src/lib.rt:147:1
 same-length-2 : tie.Need-same-length-2
 same-length-2 c = search needs
 
--- src/lib.rt:147:1
 returns-2 : tie.Need-returns-2
 returns-2 c = store-ready (c .before .before .before .before .before .before .before .before .before .before .before .before .before .args .block .now) (c .before .before .before .before .before .before .before .before .before .before .before .before .before .args .img .now) (c .before .before .before .before .before .before .before .before .before .before .before .before .before .args .key .now) (c .before .before .before .before .before .before .before .before .before .before .before .before .before .args .value .now) (c .before .before .before .before .before .before .before .asked-entry .ensures) (c .before .before .before .before .before .z .given .0 .0) (c .before .before .before .before .before .z .given .0 .1 .0) (c .before .before .before .before .before .z .given .1) (c .before .before .give .ensures)
 

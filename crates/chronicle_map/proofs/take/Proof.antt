@@ -6,23 +6,18 @@ use Rattle.chronicle_map.proofs.take.Reads as reads
 use Rattle.chronicle_map.proofs.take.Lts as lts
 use Rattle.edit.proofs.remove.Reads as remove-reads
 
--- src/lib.rt:119:8
 remove-requires : tie.Need-remove-requires
 remove-requires c κs = search needs
 
--- src/lib.rt:120:9
 same-length : tie.Need-same-length
 same-length c = search needs
 
--- src/lib.rt:120:9
 returns : tie.Need-returns
 returns c = taken-done (c .before .before .before .before .before .before .before .args .z) (c .before .before .before .before .before .before .before .args .img .now) (c .before .before .before .before .before .before .before .args .key .now) (c .before .before .before .remove .result) (c .before .before .before .remove .ensures .0) (c .before .before .before .remove .ensures .1) (c .if1 .taken)
 
--- src/lib.rt:115:1
 same-length-2 : tie.Need-same-length-2
 same-length-2 c = search needs
 
--- src/lib.rt:115:1
 returns-2 : tie.Need-returns-2
 returns-2 c = taken-absent (c .before .before .before .before .before .before .before .args .z) (c .before .before .before .before .before .before .before .args .img .now) (c .before .before .before .before .before .before .before .args .key .now) (c .before .before .before .remove .result) (c .before .before .before .remove .ensures .0) (c .before .before .before .remove .ensures .1) (c .if1 .left)
 

@@ -1,0 +1,142 @@
+-- The worked store X of the scope: its cases p1 to p10 as one list, each an image, the calls made on it, a question and what is due.
+use Prim.Native.Nat.{ℕ}
+use mathlib.Core.List.{List, [], _∷_, _++_, map}
+use lib.ListN.{replicate}
+use Rattle.words.specs.Bytes.{cut}
+use Rattle.words.specs.Numbers.{putLe}
+use Rattle.settings.specs.Worked.{fieldsX, blockWith}
+use Rattle.image.specs.Check.{check, verdictNumbers}
+use Rattle.image.specs.List.{entry, listedNumbers}
+use Rattle.chronicle_map.specs.Calls.{lookup, lookupNumbers, recordBytes}
+use Rattle.chronicle_map.specs.History.{Call, stores, removes, Said, run, answers}
+
+unfoldable pub blockX : List ℕ
+blockX = blockWith 1 fieldsX
+
+-- zero but for bulk count 1, first free tier 2, H 64 and the store size
+abbrev pub sized : ℕ → List ℕ
+sized size = putLe (putLe (putLe (putLe (replicate 496 0) 8 3 1) 11 5 2) 21 4 64) 25 8 size
+
+abbrev pub imageX : List ℕ
+imageX = sized 496
+
+-- ---- the calls of the cases
+
+abbrev pub pair : ℕ → ℕ → List ℕ
+pair a b = a ∷ b ∷ []
+
+-- a record of four bytes
+abbrev pub four : ℕ → List ℕ
+four n = n ∷ n ∷ n ∷ n ∷ []
+
+abbrev pub after2 : List Call
+after2 = stores (pair 1 2) (16 ∷ 0 ∷ 0 ∷ 0 ∷ []) ∷ []
+
+abbrev pub after3 : List Call
+after3 = after2 ++ (stores (pair 2 1) (240 ∷ 255 ∷ 255 ∷ 255 ∷ []) ∷ [])
+
+abbrev pub after4 : List Call
+after4 = after3 ++ (stores (pair 3 1) (four 31) ∷ [])
+
+abbrev pub after5 : List Call
+after5 = after4 ++ (stores (pair 1 3) (four 13) ∷ [])
+
+abbrev pub after6 : List Call
+after6 = after5 ++ (stores (pair 4 1) (four 41) ∷ stores (pair 5 1) (four 51) ∷ stores (pair 6 1) (four 61) ∷ [])
+
+abbrev pub after7 : List Call
+after7 = after4 ++ (removes (pair 1 2) ∷ [])
+
+abbrev pub after8 : List Call
+after8 = after4 ++ (stores (pair 1 2) (1 ∷ 2 ∷ 3 ∷ 4 ∷ 5 ∷ []) ∷ [])
+
+-- ---- a case: calls made on an image, then a question, and what is due
+
+pub data Asks : Type 0 where
+  checks : Asks
+  lists : ℕ → Asks
+  -- a lookup's three numbers and the record's bytes
+  finds : List ℕ → Asks
+  -- n bytes at an offset
+  bytes : ℕ → ℕ → Asks
+  -- the numbers that the calls answered
+  answered : Asks
+
+pub data Case : Type 0 where
+  case : List ℕ → List Call → Asks → List ℕ → Case
+
+abbrev pub reply : List ℕ → List ℕ → List Call → Asks → List ℕ
+reply img now calls checks = verdictNumbers (check blockX now)
+reply img now calls (lists n) = listedNumbers (entry blockX now n)
+reply img now calls (finds key) = lookupNumbers (lookup blockX now key) ++ recordBytes now (lookup blockX now key)
+reply img now calls (bytes at n) = cut now at n
+reply img now calls answered = map (λ (s : Said). s .number) (answers blockX img calls)
+
+abbrev pub got : Case → List ℕ
+got (case img calls q d) = reply img (run blockX img calls) calls q
+
+abbrev pub due : Case → List ℕ
+due (case img calls q d) = d
+
+unfoldable pub cases : List Case
+cases =
+    -- p1
+    case imageX [] checks (0 ∷ 0 ∷ 0 ∷ 1 ∷ 1 ∷ [])
+    ∷ case imageX [] (finds (pair 1 2)) (1 ∷ 0 ∷ 0 ∷ [])
+    -- p2: the entry, slot 1, the free list, entry count, lowest free chunk
+    ∷ case imageX after2 answered (0 ∷ [])
+    ∷ case imageX after2 (bytes 232 8) (2 ∷ 1 ∷ 2 ∷ 4 ∷ 16 ∷ 0 ∷ 0 ∷ 0 ∷ [])
+    ∷ case imageX after2 (bytes 100 4) (1 ∷ 0 ∷ 0 ∷ 0 ∷ [])
+    ∷ case imageX after2 (bytes 224 1) (1 ∷ [])
+    ∷ case imageX after2 (bytes 72 8) (1 ∷ 0 ∷ 0 ∷ 0 ∷ 1 ∷ 0 ∷ 0 ∷ 0 ∷ [])
+    -- p3: slot 2, the free list, each key's own record
+    ∷ case imageX after3 (bytes 104 4) (3 ∷ 0 ∷ 0 ∷ 0 ∷ [])
+    ∷ case imageX after3 (bytes 224 1) (3 ∷ [])
+    ∷ case imageX after3 (finds (pair 1 2)) (0 ∷ 236 ∷ 4 ∷ 16 ∷ 0 ∷ 0 ∷ 0 ∷ [])
+    ∷ case imageX after3 (finds (pair 2 1)) (0 ∷ 244 ∷ 4 ∷ 240 ∷ 255 ∷ 255 ∷ 255 ∷ [])
+    -- the lister's lines after p3
+    ∷ case imageX after3 checks (0 ∷ 2 ∷ 2 ∷ 1 ∷ 1 ∷ [])
+    ∷ case imageX after3 (lists 0) (0 ∷ 0 ∷ 1 ∷ 1 ∷ 0 ∷ 1 ∷ 2 ∷ 4 ∷ [])
+    ∷ case imageX after3 (lists 1) (0 ∷ 0 ∷ 1 ∷ 2 ∷ 1 ∷ 1 ∷ 2 ∷ 4 ∷ [])
+    ∷ case imageX after3 (lists 2) (1 ∷ 0 ∷ 0 ∷ 0 ∷ 0 ∷ 0 ∷ 0 ∷ 0 ∷ [])
+    -- p4: slot 3, the free list
+    ∷ case imageX after4 (bytes 108 4) (5 ∷ 0 ∷ 0 ∷ 0 ∷ [])
+    ∷ case imageX after4 (bytes 224 1) (7 ∷ [])
+    -- p5: slot 1 of tier 2, first free and used, the header's next, tier 2's previous and order
+    ∷ case imageX after5 answered (0 ∷ 0 ∷ 0 ∷ 0 ∷ [])
+    ∷ case imageX after5 (bytes 300 4) (1 ∷ 0 ∷ 0 ∷ 0 ∷ [])
+    ∷ case imageX after5 (bytes 11 10) (0 ∷ 0 ∷ 0 ∷ 0 ∷ 0 ∷ 1 ∷ 0 ∷ 0 ∷ 0 ∷ 0 ∷ [])
+    ∷ case imageX after5 (bytes 80 8) (2 ∷ 0 ∷ 0 ∷ 0 ∷ 0 ∷ 0 ∷ 0 ∷ 0 ∷ [])
+    ∷ case imageX after5 (bytes 368 8) (1 ∷ 0 ∷ 0 ∷ 0 ∷ 0 ∷ 0 ∷ 0 ∷ 0 ∷ [])
+    ∷ case imageX after5 (bytes 388 4) (1 ∷ 0 ∷ 0 ∷ 0 ∷ [])
+    ∷ case imageX after5 (finds (pair 1 3)) (0 ∷ 436 ∷ 4 ∷ four 13)
+    ∷ case imageX after5 (finds (pair 4 1)) (1 ∷ 0 ∷ 0 ∷ [])
+    -- p6: the next two go to tier 2, the third finds no room; each key's own record
+    ∷ case imageX after6 answered (0 ∷ 0 ∷ 0 ∷ 0 ∷ 0 ∷ 0 ∷ 10 ∷ [])
+    ∷ case imageX after6 checks (0 ∷ 6 ∷ 6 ∷ 2 ∷ 0 ∷ [])
+    ∷ case imageX after6 (lists 4) (0 ∷ 0 ∷ 2 ∷ 2 ∷ 1 ∷ 1 ∷ 2 ∷ 4 ∷ [])
+    ∷ case imageX after6 (lists 5) (0 ∷ 0 ∷ 2 ∷ 3 ∷ 2 ∷ 1 ∷ 2 ∷ 4 ∷ [])
+    ∷ case imageX after6 (finds (pair 1 3)) (0 ∷ 436 ∷ 4 ∷ four 13)
+    ∷ case imageX after6 (finds (pair 4 1)) (0 ∷ 444 ∷ 4 ∷ four 41)
+    ∷ case imageX after6 (finds (pair 5 1)) (0 ∷ 452 ∷ 4 ∷ four 51)
+    ∷ case imageX after6 (finds (pair 6 1)) (1 ∷ 0 ∷ 0 ∷ [])
+    -- p7: slots 1 to 3, the free list, the lowest free chunk
+    ∷ case imageX after7 answered (0 ∷ 0 ∷ 0 ∷ 0 ∷ [])
+    ∷ case imageX after7 (bytes 100 12) (3 ∷ 0 ∷ 0 ∷ 0 ∷ 5 ∷ 0 ∷ 0 ∷ 0 ∷ 0 ∷ 0 ∷ 0 ∷ 0 ∷ [])
+    ∷ case imageX after7 (bytes 224 1) (6 ∷ [])
+    ∷ case imageX after7 (bytes 76 4) (0 ∷ 0 ∷ 0 ∷ 0 ∷ [])
+    ∷ case imageX after7 (finds (pair 1 2)) (1 ∷ 0 ∷ 0 ∷ [])
+    ∷ case imageX after7 (finds (pair 3 1)) (0 ∷ 252 ∷ 4 ∷ four 31)
+    -- p8: chunks 3 and 4, slot 3, the free list, the new record
+    ∷ case imageX after8 (lists 2) (0 ∷ 0 ∷ 1 ∷ 3 ∷ 3 ∷ 2 ∷ 2 ∷ 5 ∷ [])
+    ∷ case imageX after8 (bytes 108 4) (7 ∷ 0 ∷ 0 ∷ 0 ∷ [])
+    ∷ case imageX after8 (bytes 224 1) (30 ∷ [])
+    ∷ case imageX after8 (finds (pair 1 2)) (0 ∷ 260 ∷ 5 ∷ 1 ∷ 2 ∷ 3 ∷ 4 ∷ 5 ∷ [])
+    ∷ case imageX after8 (finds (pair 2 1)) (0 ∷ 244 ∷ 4 ∷ 240 ∷ 255 ∷ 255 ∷ 255 ∷ [])
+    -- p9: 28 bytes take 4 chunks, 29 are refused
+    ∷ case imageX (stores (pair 1 2) (replicate 28 9) ∷ []) (lists 0) (0 ∷ 0 ∷ 1 ∷ 1 ∷ 0 ∷ 4 ∷ 2 ∷ 28 ∷ [])
+    ∷ case imageX (stores (pair 1 2) (replicate 29 9) ∷ []) answered (9 ∷ [])
+    -- p10
+    ∷ case (sized 495) [] checks (4 ∷ 0 ∷ 0 ∷ 0 ∷ 0 ∷ [])
+    ∷ case (putLe imageX 224 1 1) [] checks (7 ∷ 0 ∷ 0 ∷ 0 ∷ 0 ∷ [])
+    ∷ []
