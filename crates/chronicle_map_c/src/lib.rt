@@ -4,31 +4,16 @@ use chronicle_map::Answer;
 use chronicle_map::Located;
 use image::Listed;
 use image::Outcome;
-use image::Stage;
+use image::numbers::row_numbers;
+use image::numbers::stage_number;
 use pairs::Asked;
 use pairs::SetAnswer;
 ghost use mathlib.Core.Path.{_≡_};
 ghost use mathlib.Core.List.{_∷_};
 ghost use Rattle.xxh64.specs.Hash.{xxh64 as Hash·xxh64};
-ghost use Rattle.image.specs.Check.{stageNumber};
 ghost use Rattle.chronicle_map.specs.Calls.{answerNumber};
 ghost use Rattle.pairs.specs.Delays.{Reply, setNumber};
 ghost use Rattle.chronicle_map_c.specs.Numbers.{checkAnswer, lookupAnswer, entryAnswer, delayAnswer, storeAnswer, storeLeaves, removeAnswer, removeLeaves, setDelayAnswer, setDelayLeaves};
-
-fn stage_number(stage: Stage) -> u32
-    ensures { λ r. ⌜ r ≡ stageNumber stage ⌝ }
-{
-    match stage {
-        Stage::Block => 2,
-        Stage::Field => 3,
-        Stage::Frame => 4,
-        Stage::Chains => 5,
-        Stage::Entries => 6,
-        Stage::Chunks => 7,
-        Stage::Key => 8,
-        Stage::Value => 9,
-    }
-}
 
 fn answer_number(answer: Answer) -> u32
     ensures { λ r. ⌜ r ≡ answerNumber answer ⌝ }
@@ -126,15 +111,7 @@ pub extern "C" fn chronicle_map_entry(block: &[u8], img: &[u8], n: u64, row: &mu
 {
     match chronicle_map::entry(block, img, n as usize) {
         Listed::Row(e) => {
-            *row = [
-                e.segment as u64,
-                e.tier as u64,
-                e.slot as u64,
-                e.chunk as u64,
-                e.chunks as u64,
-                e.entry.keyLength as u64,
-                e.entry.valueLength as u64,
-            ];
+            *row = row_numbers(e);
             0
         }
         Listed::Past => {

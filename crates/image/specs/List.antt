@@ -28,8 +28,12 @@ fromExamined img n (Ready z c) = fromNth (pick (live z img) n)
 unfoldable pub entry : List ℕ → List ℕ → ℕ → Listed
 entry block img n = fromExamined img n (examine block img)
 
--- the paper's number, and the seven of a lister line
+-- the seven numbers of a lister line
+abbrev pub rowNumbers : Live → List ℕ
+rowNumbers e = e .segment ∷ e .tier ∷ e .slot ∷ e .chunk ∷ e .chunks ∷ e .entry .keyLength ∷ e .entry .valueLength ∷ []
+
+-- the paper's number, and those
 abbrev pub listedNumbers : Listed → List ℕ
-listedNumbers (listed.Row e) = 0 ∷ e .segment ∷ e .tier ∷ e .slot ∷ e .chunk ∷ e .chunks ∷ e .entry .keyLength ∷ e .entry .valueLength ∷ []
+listedNumbers (listed.Row e) = 0 ∷ rowNumbers e
 listedNumbers listed.Past = 1 ∷ 0 ∷ 0 ∷ 0 ∷ 0 ∷ 0 ∷ 0 ∷ 0 ∷ []
 listedNumbers (listed.Refused s) = stageNumber s ∷ 0 ∷ 0 ∷ 0 ∷ 0 ∷ 0 ∷ 0 ∷ 0 ∷ []

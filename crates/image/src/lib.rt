@@ -1,5 +1,6 @@
 // The check of a whole image, and the list of its live entries.
 pub mod list;
+pub mod numbers;
 
 use chains::Chains;
 use contents::Contents;

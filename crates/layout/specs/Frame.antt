@@ -42,7 +42,7 @@ pub record Bounded (z : Shape) : Type 0 where
   pub headers : z .headers < 2 ^ 32
   pub bulks : z .bulks < 2 ^ 24
 
--- ---- the answer, and its number in document 01
+-- ---- the answer
 
 unfoldable pub fromFrame : (z : Shape) (img : List ℕ) → Dec (FrameFits z img) → Frame
 fromFrame z img (no _) = Broken
@@ -50,10 +50,6 @@ fromFrame z img (yes _) = Fits z
 
 unfoldable pub frameOf : Settings → List ℕ → Frame
 frameOf st img = fromFrame (shapeOf st img) img (frameFits? (shapeOf st img) img)
-
-abbrev pub frameNumber : Frame → ℕ
-frameNumber (Fits z) = 0
-frameNumber Broken = 4
 
 -- ---- an image whose frame fits
 

@@ -1,4 +1,4 @@
--- The lines of an accepted image: as many as it has live entries, and the n-th has the numbers of the n-th. Assumes nothing.
+-- The lines of an accepted image: as many as it has live entries, and the n-th has the numbers of the n-th.
 use Prim.Native.Nat.{ℕ, zero, suc, _<_}
 use mathlib.Core.List.{List, [], _∷_}
 use mathlib.Core.Path.{_≡_, ap}
@@ -13,19 +13,20 @@ use Rattle.image.specs.declared.Counts.{Counts}
 use Rattle.image.specs.declared.Examined.the-variants.{Ready}
 use Rattle.image.specs.declared.Nth.{Nth}
 use Rattle.image.specs.declared.Nth.the-variants.{At, After}
-use Rattle.image.specs.declared.Listed.the-variants.{Row}
 use Rattle.image.specs.Check.{countsOf, examine}
-use Rattle.image.specs.List.{pick, fromNth, listedNumbers}
+use Rattle.image.specs.List.{pick}
+use Rattle.text.specs.declared.line.Line.{Line}
+use Rattle.text.specs.Line.{Holds}
 use Rattle.image.proofs.Ready.{ready-framed, ready-tiers, ready-counts}
+use Rattle.lister.specs.Printed.{rowText, nthText}
 
 module _ (block img : List ℕ) (z : Shape) (c : Counts) where
   pub ready-lines : examine block img ≡ Ready z c → Framed z (length img) × ChainTiers z img × (c .entries ≡ length (live z img))
   unfolding countsOf
   ready-lines e = (ready-framed block img z c e, ready-tiers block img z c e, ap (λ (x : Counts). x .entries) (ready-counts block img z c e))
 
-pub numbers-of : (e : Live) (r : Nth) (row : List ℕ) → r ≡ At e → 0 ∷ row ≡ listedNumbers (Row e) → 0 ∷ row ≡ listedNumbers (fromNth r)
-unfolding fromNth
-numbers-of e r row h k = rw h k
+pub nth-at : {e : Live} {n : Nth} {l : Line} → n ≡ At e → Holds (rowText e) l → Holds (nthText n) l
+nth-at h k = rw h k
 
 -- below the length none is past the last
 pub not-after : (es : List Live) (n m : ℕ) → n < length es → pick es n ≡ After m → ⊥

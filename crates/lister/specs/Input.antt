@@ -1,23 +1,67 @@
--- What is read after the block: the image's length, and the image.
-use Prim.Native.Nat.{ℕ, _≤_}
+-- The input: the settings block, the image's length in four bytes, and the image.
+use Prim.Native.Nat.{ℕ, _+_, _≤_}
 use mathlib.Core.Bool.{Bool, true, false}
-use lib.Dec.{leb}
+use mathlib.Core.List.{List}
+use mathlib.Core.Path.{_≡_}
+use lib.Dec.{ltb}
+use lib.ListN.{length, take}
+use Rattle.words.specs.Numbers.{be}
+use Rattle.settings.specs.declared.Parsed.{Parsed}
+use Rattle.settings.specs.declared.Parsed.the-variants.{Accepted, BadBlock, BadField}
+use Rattle.settings.specs.Block.{parse}
+use Rattle.image.specs.declared.Stage.{Stage}
+use Rattle.image.specs.declared.Stage.the-variants.{Block, Field, Frame}
 use Rattle.lister.specs.declared.input.Input.{Input}
-use Rattle.lister.specs.declared.input.Input.the-variants.{Whole, Broken}
+use Rattle.lister.specs.declared.input.Input.the-variants.{More, Whole, Refused}
 
--- the longest image that is read
+-- where the block ends, where the image starts, the longest image, and so the longest input that is read
+abbrev pub blockEnd : ℕ
+blockEnd = 71
+
+abbrev pub imageAt : ℕ
+imageAt = 75
+
 abbrev pub limit : ℕ
 limit = 65536
 
-abbrev pub fromTest : ℕ → Bool → Input
-fromTest n true = Whole n
-fromTest n false = Broken
+abbrev pub longest : ℕ
+longest = imageAt + limit
 
--- what the length before the image says
-unfoldable pub lengthOf : ℕ → Input
-lengthOf n = fromTest n (leb n limit)
+-- ---- what to do after the bytes that were read, which are all where the input has ended
 
--- no image that is read passes the limit
-abbrev pub Within : Input → Type 0
-Within (Whole n) = n ≤ limit
-Within Broken = Unit
+-- fewer than n bytes are there
+abbrev pub missing : Stage → ℕ → Bool → Input
+missing s n true = Refused s
+missing s n false = More n
+
+-- n bytes in all are needed for what comes next
+unfoldable pub needed : Stage → ℕ → List ℕ → Bool → Input → Input
+needed s n read ended next = elim (ltb (length read) n) [ true ↦ missing s n ended | false ↦ next ]
+
+unfoldable pub readingImage : ℕ → List ℕ → Bool → Input
+readingImage n read ended = elim (ltb limit n) [ true ↦ Refused Frame | false ↦ needed Frame (imageAt + n) read ended (Whole n) ]
+
+unfoldable pub readingLength : List ℕ → Bool → Input
+readingLength read ended = needed Frame imageAt read ended (readingImage (be read blockEnd 4) read ended)
+
+unfoldable pub fromParsed : Parsed → Input → Input
+fromParsed BadBlock next = Refused Block
+fromParsed BadField next = Refused Field
+fromParsed (Accepted st) next = next
+
+unfoldable pub reading : List ℕ → Bool → Input
+reading read ended = needed Block blockEnd read ended (fromParsed (parse (take blockEnd read)) (readingLength read ended))
+
+-- ---- the answer of the loop that reads: what `reading` says of the bytes that it has got, once that is not to read on
+
+abbrev pub Decided : Input → Type 0
+Decided (More n) = ⊥
+Decided (Whole n) = Unit
+Decided (Refused s) = Unit
+
+pub record Answers (buf : List ℕ) (r : Input) : Type 0 where
+  pub got : ℕ
+  pub ended : Bool
+  pub within : got ≤ length buf
+  pub said : r ≡ reading (take got buf) ended
+  pub decided : Decided r

@@ -5,32 +5,30 @@ mod print;
 mod rows;
 
 use image::Examined;
-use image::Stage;
+use input::BLOCK_END;
+use input::IMAGE_AT;
 use input::Input;
-use libc::STDIN_FILENO;
-use settings::Parsed;
+use input::LONGEST;
+ghost use Prim.Native.Nat.{_≤_};
+ghost use lib.ListN.{length};
+ghost use Rattle.lister.specs.Input.{imageAt};
 
 fn main() {
-    let mut block = [0u8; 71];
-    let got = io::read_full(STDIN_FILENO, &mut block);
-    match settings::parse(&block[..got]) {
-        Parsed::BadBlock => print::refusal(Stage::Block),
-        Parsed::BadField => print::refusal(Stage::Field),
-        Parsed::Accepted(_) => read_on(&block[..got]),
+    let mut buf = [0u8; LONGEST];
+    match input::read(&mut buf) {
+        Input::Whole(n) => list(&buf[..IMAGE_AT + n]),
+        Input::Refused(stage) => print::refusal(stage),
+        // not an answer of read, which reads on
+        Input::More(_) => {}
     }
 }
 
-// Reads the rest, after a block whose settings stand.
-fn read_on(block: &[u8]) {
-    let mut img = io::large_buffer();
-    match input::image(&mut img) {
-        Input::Whole(n) => list(block, &img[..n]),
-        Input::Broken => print::refusal(Stage::Frame),
-    }
-}
-
-fn list(block: &[u8], img: &[u8]) {
-    match image::examine(block, img) {
+// Lists the image of a whole input.
+fn list(input: &[u8])
+    requires { ⌜ imageAt ≤ length (now input) ⌝ }
+{
+    let img = &input[IMAGE_AT..];
+    match image::examine(&input[..BLOCK_END], img) {
         Examined::Refused(stage) => print::refusal(stage),
         Examined::Ready(z, counts) => {
             print::heading();

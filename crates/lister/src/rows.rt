@@ -3,40 +3,33 @@ use crate::print;
 use entries::Live;
 use image::Nth;
 use layout::Shape;
+use text::Line;
 ghost use mathlib.Core.Path.{_≡_};
-ghost use mathlib.Core.List.{_∷_};
 ghost use Prim.Native.Nat.{_<_};
 ghost use lib.ListN.{length};
 ghost use Rattle.layout.specs.Frame.{Framed};
 ghost use Rattle.entries.specs.Live.{live};
 ghost use Rattle.search.specs.Search.{ChainTiers};
-ghost use Rattle.image.specs.declared.Listed.the-variants.{Row};
-ghost use Rattle.image.specs.List.{pick, fromNth, listedNumbers};
+ghost use Rattle.image.specs.List.{pick};
+ghost use Rattle.text.specs.Line.{Holds};
+ghost use Rattle.lister.specs.Printed.{rowText, nthText};
 
-// The seven numbers of an entry's line.
-fn numbers(e: Live) -> [u64; 7]
-    ensures { λ r. ⌜ 0 ∷ r ≡ listedNumbers (Row e) ⌝ }
+fn row_line(e: Live) -> Line
+    ensures { λ r. ⌜ Holds (rowText e) r ⌝ }
 {
-    [
-        e.segment as u64,
-        e.tier as u64,
-        e.slot as u64,
-        e.chunk as u64,
-        e.chunks as u64,
-        e.entry.keyLength as u64,
-        e.entry.valueLength as u64,
-    ]
+    let numbers = image::numbers::row_numbers(e);
+    text::numbers_line(&numbers)
 }
 
-// Those of the n-th live entry, n from 0.
-fn nth(z: Shape, img: &[u8], n: usize) -> [u64; 7]
+// That of the n-th live entry, n from 0.
+fn nth_line(z: Shape, img: &[u8], n: usize) -> Line
     requires { ⌜ Framed z (length (now img)) × ChainTiers z (now img) × (n < length (live z (now img))) ⌝ }
-    ensures { λ r. ⌜ 0 ∷ r ≡ listedNumbers (fromNth (pick (live z (now (img .entry))) n)) ⌝ }
+    ensures { λ r. ⌜ Holds (nthText (pick (live z (now (img .entry))) n)) r ⌝ }
 {
     match image::list::nth(z, img, n) {
-        Nth::At(e) => numbers(e),
+        Nth::At(e) => row_line(e),
         // n is below their number
-        Nth::After(_) => [0; 7],
+        Nth::After(_) => text::heading(),
     }
 }
 
@@ -45,6 +38,6 @@ pub fn all(z: Shape, img: &[u8], n: usize)
     requires { ⌜ Framed z (length (now img)) × ChainTiers z (now img) × (n ≡ length (live z (now img))) ⌝ }
 {
     for i in 0..n {
-        print::row(nth(z, img, i));
+        print::line(nth_line(z, img, i));
     }
 }

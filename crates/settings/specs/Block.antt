@@ -64,7 +64,7 @@ settingsOf block =
       mostChunks = field block 16;
     }
 
--- ---- the answer, and its number in document 01
+-- ---- the answer
 
 unfoldable pub fromRules : (st : Settings) → Dec (Valid st) → Parsed
 fromRules st (no _) = BadField
@@ -76,8 +76,3 @@ fromBlock block (yes _) = fromRules (settingsOf block) (valid? (settingsOf block
 
 unfoldable pub parse : List ℕ → Parsed
 parse block = fromBlock block (blockFits? block)
-
-abbrev pub parsedNumber : Parsed → ℕ
-parsedNumber (Accepted st) = 0
-parsedNumber BadBlock = 2
-parsedNumber BadField = 3

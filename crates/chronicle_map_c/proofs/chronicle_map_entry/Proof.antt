@@ -1,6 +1,8 @@
+use Prim.Native.Nat.{ℕ}
 use mathlib.Core.Path.{refl}
+use mathlib.Core.List.{List, _∷_}
 use Rattle.image.specs.List.{listedNumbers}
-use Rattle.chronicle_map_c.proofs.Telling.{told, told-first}
+use Rattle.chronicle_map_c.proofs.Telling.{told, told-part, told-first}
 use borrow.Author.Needs.{needs}
 use Rattle.chronicle_map_c.proofs.chronicle_map_entry.Statement.{statement}
 use Rattle.chronicle_map_c.proofs.chronicle_map_entry.Tie as tie
@@ -10,6 +12,9 @@ entry-requires c κs = search needs
 
 enum-known-e : tie.Need-enum-known-e
 enum-known-e c = search needs
+
+row-numbers-requires : tie.Need-row-numbers-requires
+row-numbers-requires c κs = search needs
 
 enum-told : tie.Need-enum-told
 enum-told c = search needs
@@ -23,7 +28,7 @@ stage-number-requires c κs = search needs
 returns : tie.Need-returns
 returns c =
     let a = c .before .before in
-    told listedNumbers (a .e .given .1) (a .before .before .entry .ensures)
+    told-part listedNumbers (a .e .given .1) (a .before .before .entry .ensures) (λ (row : List ℕ). 0 ∷ row) refl (c .row-numbers .ensures)
 
 returns-2 : tie.Need-returns-2
 returns-2 c =
@@ -41,6 +46,7 @@ chronicle-map-entry-spec =
     (tie.spec
     entry-requires
     enum-known-e
+    row-numbers-requires
     enum-told
     enum-known-stage
     stage-number-requires

@@ -1,8 +1,22 @@
 use mathlib.Core.Path.{sym, _∙_}
+use native.Mathlib.Omega.{arith}
+use lib.Seq.{length-take-le}
 use Rattle.lister.proofs.Lines.{ready-lines}
 use borrow.Author.Needs.{needs}
 use Rattle.lister.proofs.list.Statement.{statement}
 use Rattle.lister.proofs.list.Tie as tie
+
+sub-img : tie.Need-sub-img
+sub-img c = search needs
+
+part-img-start : tie.Need-part-img-start
+part-img-start c = search needs
+
+part-img-end : tie.Need-part-img-end
+part-img-end c = search needs
+
+slice-aggregate-examine : tie.Need-slice-aggregate-examine
+slice-aggregate-examine c = sym (length-take-le 71 (c .before .before .before .args .input .now) (omega arith))
 
 examine-requires : tie.Need-examine-requires
 examine-requires c κs = search needs
@@ -20,7 +34,9 @@ heading-requires : tie.Need-heading-requires
 heading-requires c κs = search needs
 
 all-requires : tie.Need-all-requires
-all-requires c κs = ready-lines _ _ _ _ (sym (c .before .before .before .before .examine .ensures) ∙ c .before .before .z .given .1)
+all-requires c κs =
+    let p = c .before .before .before .before in let examine = p .examine in
+    ready-lines _ _ _ _ (sym (examine .ensures) ∙ c .before .before .z .given .1)
 
 totals-requires : tie.Need-totals-requires
 totals-requires c κs = search needs
@@ -35,6 +51,10 @@ pub list-spec : {M : Type 1} → statement M
 list-spec =
     tie.close
     (tie.spec
+    sub-img
+    part-img-start
+    part-img-end
+    slice-aggregate-examine
     examine-requires
     enum-known-stage
     refusal-requires

@@ -1,5 +1,5 @@
-use borrow.Author.Needs.{needs}
 use Prim.Native.Nat.{_≤_, _-_}
+use borrow.Author.Needs.{needs}
 use Rattle.lister.proofs.rows.all.Statement.{statement}
 use Rattle.lister.proofs.rows.all.Tie as tie
 
@@ -12,11 +12,11 @@ abbrev μ-loop : tie.MeasureT-loop
 loop-holds : tie.Need-loop-holds Inv-loop μ-loop
 loop-holds c = search needs
 
-nth-requires : tie.Need-nth-requires Inv-loop μ-loop
-nth-requires c κs = search needs
+nth-line-requires : tie.Need-nth-line-requires Inv-loop μ-loop
+nth-line-requires c κs = search needs
 
-row-requires : tie.Need-row-requires Inv-loop μ-loop
-row-requires c κs = search needs
+line-requires : tie.Need-line-requires Inv-loop μ-loop
+line-requires c κs = search needs
 
 add-i : tie.Need-add-i Inv-loop μ-loop
 add-i c = search needs
@@ -37,8 +37,8 @@ all-spec =
     Inv-loop
     μ-loop
     loop-holds
-    nth-requires
-    row-requires
+    nth-line-requires
+    line-requires
     add-i
     loop-less
     loop-again

@@ -1,0 +1,114 @@
+-- What `reading` says of an input.
+use Prim.Native.Nat.{ℕ, _+_, _-_, _≤_, _<_}
+use mathlib.Core.Bool.{Bool, true, false}
+use mathlib.Core.List.{List}
+use mathlib.Core.Path.{_≡_, refl, sym, _∙_}
+use mathlib.Core.Logic.{⊎-elim}
+use native.Mathlib.Omega.{arith}
+use lib.Dec.{ltb}
+use lib.ListN.{length, take}
+use lib.Seq.{length-take-le}
+use borrow.Author.Tests.{ltb-false, lt-ltb, le-ltb}
+use Rattle.lists.specs.Cases.{by-test, lt-or}
+use Rattle.words.specs.Numbers.{be}
+use Rattle.settings.specs.declared.Parsed.{Parsed}
+use Rattle.settings.specs.declared.Parsed.the-variants.{Accepted, BadBlock, BadField}
+use Rattle.settings.specs.Block.{parse}
+use Rattle.image.specs.declared.Stage.{Stage}
+use Rattle.image.specs.declared.Stage.the-variants.{Frame}
+use Rattle.lister.specs.declared.input.Input.{Input}
+use Rattle.lister.specs.declared.input.Input.the-variants.{More, Whole, Refused}
+use Rattle.lister.specs.Input.{blockEnd, imageAt, limit, longest, missing, needed, readingImage, readingLength, fromParsed, reading, Decided, Answers}
+
+-- ---- by cases
+
+module _ (s : Stage) (n : ℕ) (read : List ℕ) (ended : Bool) (next : Input) where
+  pub needed-short : length read < n → needed s n read ended next ≡ missing s n ended
+  unfolding needed
+  needed-short h = rw (lt-ltb (length read) n h, needed)
+
+  pub needed-there : n ≤ length read → needed s n read ended next ≡ next
+  unfolding needed
+  needed-there h = rw (le-ltb (length read) n h, needed)
+
+module _ (n : ℕ) (read : List ℕ) (ended : Bool) where
+  pub image-long : limit < n → readingImage n read ended ≡ Refused Frame
+  unfolding readingImage
+  image-long h = rw (lt-ltb limit n h, readingImage)
+
+  pub image-short : n ≤ limit → readingImage n read ended ≡ needed Frame (imageAt + n) read ended (Whole n)
+  unfolding readingImage
+  image-short h = rw (le-ltb limit n h, readingImage)
+
+module _ (read : List ℕ) (ended : Bool) where
+  pub length-next : {n : ℕ} → imageAt ≤ length read → n ≡ be read blockEnd 4 → readingLength read ended ≡ readingImage n read ended
+  unfolding readingLength
+  length-next {n} h e = rw e (needed-there _ imageAt read ended _ h)
+
+  pub reading-next : {p : Parsed} → blockEnd ≤ length read → p ≡ parse (take blockEnd read) → reading read ended ≡ fromParsed p (readingLength read ended)
+  unfolding reading
+  reading-next h e = rw e (needed-there _ blockEnd read ended _ h)
+
+-- ---- it asks for more than it has, within the longest input, and never after the end; a whole image is within what was read
+
+abbrev pub Bounds : List ℕ → Bool → Input → Type 0
+Bounds read ended (More n) = (ended ≡ false) × (length read < n) × (n ≤ longest)
+Bounds read ended (Whole n) = imageAt + n ≤ length read
+Bounds read ended (Refused s) = Unit
+
+missing-bounds : (read : List ℕ) (ended : Bool) (s : Stage) (n : ℕ) → length read < n → n ≤ longest → Bounds read ended (missing s n ended)
+missing-bounds read true s n l h = tt
+missing-bounds read false s n l h = (refl, l, h)
+
+module _ (read : List ℕ) (ended : Bool) where
+  needed-bounds : (s : Stage) (n : ℕ) (next : Input) → n ≤ longest → (n ≤ length read → Bounds read ended next) → Bounds read ended (needed s n read ended next)
+  needed-bounds s n next h f =
+      ⊎-elim
+      (λ (l : length read < n). rw (needed-short s n read ended next l) (missing-bounds read ended s n l h))
+      (λ (l : n ≤ length read). rw (needed-there s n read ended next l) (f l))
+      (lt-or (length read) n)
+
+  image-bounds : (n : ℕ) → Bounds read ended (readingImage n read ended)
+  image-bounds n =
+      ⊎-elim
+      (λ (l : limit < n). rw (image-long n read ended l) tt)
+      (λ (l : n ≤ limit). rw (image-short n read ended l) (needed-bounds Frame (imageAt + n) (Whole n) (omega arith) (λ w. w)))
+      (lt-or limit n)
+
+  parsed-bounds : (p : Parsed) (next : Input) → Bounds read ended next → Bounds read ended (fromParsed p next)
+  unfolding fromParsed
+  parsed-bounds BadBlock next h = tt
+  parsed-bounds BadField next h = tt
+  parsed-bounds (Accepted st) next h = h
+
+  pub reading-bounds : Bounds read ended (reading read ended)
+  unfolding reading readingLength
+  reading-bounds =
+      needed-bounds _ blockEnd _ (omega arith) λ _.
+      parsed-bounds (parse (take blockEnd read)) _
+      (needed-bounds _ imageAt _ (omega arith) λ _. image-bounds (be read blockEnd 4))
+
+-- ---- so a buffer of the longest input is enough, and reading on ends
+
+module _ (buf : List ℕ) (got : ℕ) (ended : Bool) {r : Input} (fits : (length buf ≡ longest) × (got ≤ longest)) (due : r ≡ reading (take got buf) ended) where
+  pub more-asked : {n : ℕ} → r ≡ More n → (ended ≡ false) × (got < n) × (n ≤ longest)
+  more-asked {n} e =
+      let bounds : Bounds (take got buf) ended (More n) = rw (sym due ∙ e) at (reading-bounds (take got buf) ended) in
+      rw (length-take-le got buf (omega arith)) at bounds
+
+  pub answers : {x : Input} → r ≡ x → Decided x → Answers buf x
+  answers e d = record { got = got; ended = ended; within = omega arith; said = sym e ∙ due; decided = d }
+
+pub whole-there : {buf : List ℕ} {r : Input} {n : ℕ} → Answers buf r → r ≡ Whole n → imageAt + n ≤ length buf
+whole-there {buf} {r} {n} a e =
+    let bounds : Bounds (take (a .got) buf) (a .ended) (Whole n) = rw (sym (a .said) ∙ e) at (reading-bounds (take (a .got) buf) (a .ended)) in
+    omega (arith, length-take-le (a .got) buf (a .within))
+
+-- how often it can be read on, and one more before the end
+abbrev pub turns : ℕ → Bool → ℕ
+turns got true = 0
+turns got false = 1 + (longest - got)
+
+pub reads-on : {ended : Bool} {got n : ℕ} (more : ℕ) → (ended ≡ false) × (got < n) × (n ≤ longest) → turns (got + more) (ltb (got + more) n) < turns got ended
+reads-on {ended} {got} {n} more h =
+    rw (h .0) (by-test (ltb (got + more) n) (λ t. rw t (omega arith)) (λ t. rw t (omega (arith, ltb-false (got + more) n t))))
