@@ -1,3 +1,4 @@
 pub mod Stages
 pub mod Ready
+pub mod Rest
 pub mod Picking

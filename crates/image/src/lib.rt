@@ -1,4 +1,5 @@
 // The check of a whole image, and the list of its live entries.
+pub mod cursor;
 pub mod list;
 pub mod numbers;
 

@@ -128,15 +128,13 @@ module _ (z : Shape) where
   unfoldable pub countersAt : ℕ → ℕ
   countersAt t = tierAt z t + lookupSize
 
+  -- those that every tier has there, a main tier too
   unfoldable pub countersOf : List ℕ → ℕ → Counters
   countersOf img t =
       record {
-        next = get img (tier t (counter next));
         previous = get img (tier t (counter previous));
-        low = get img (tier t (counter low));
         segment = get img (tier t (counter segment));
         order = get img (tier t (counter order));
-        count = get img (tier t (counter count));
       }
 
   -- a main tier has its next, lowest free chunk and entry count in its segment header, any other tier in its own counters

@@ -44,14 +44,12 @@ const LOWEST_FREE: usize = 12;
 
 const NEXT_TIER: usize = 16;
 
-// A tier's own counters. Of a main tier, next, low and count stand in the segment header instead: see shared_at.
+// The counters that every tier has in its own place. Next, low and count are not among them: a main tier has
+// those in its segment header, and in its counters they are neither read nor written. See shared_at.
 pub struct Counters {
-    pub next: u64,
     pub previous: u64,
-    pub low: u64,
     pub segment: u64,
     pub order: u64,
-    pub count: u64,
 }
 
 impl Counters {
@@ -73,12 +71,9 @@ impl Counters {
     {
         let at = counters_at(z, t);
         Counters {
-            next: words::read_le8(img, at + Counters::NEXT),
             previous: words::read_le8(img, at + Counters::PREVIOUS),
-            low: words::read_le8(img, at + Counters::LOW),
             segment: words::read_le4(img, at + Counters::SEGMENT),
             order: words::read_le4(img, at + Counters::ORDER),
-            count: words::read_le4(img, at + Counters::COUNT),
         }
     }
 }

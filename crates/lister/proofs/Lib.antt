@@ -1,4 +1,3 @@
-pub mod Lines
 pub mod Reading
 pub mod Decided
 pub mod Order

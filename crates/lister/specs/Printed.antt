@@ -1,11 +1,9 @@
 -- The lines that the lister prints.
 use Prim.Native.Nat.{ℕ}
-use mathlib.Core.List.{List, []}
+use mathlib.Core.List.{List}
 use Rattle.entries.specs.declared.Live.{Live}
 use Rattle.image.specs.declared.Stage.{Stage}
 use Rattle.image.specs.declared.Counts.{Counts}
-use Rattle.image.specs.declared.Nth.{Nth}
-use Rattle.image.specs.declared.Nth.the-variants.{At, After}
 use Rattle.image.specs.Check.{stageNumber}
 use Rattle.image.specs.List.{rowNumbers}
 use Rattle.text.specs.Lines.{line, totals, refused}
@@ -15,11 +13,6 @@ refusalText s = refused (stageNumber s)
 
 abbrev pub rowText : Live → List ℕ
 rowText e = line (rowNumbers e)
-
--- that of an entry of a list, and nothing past its end
-abbrev pub nthText : Nth → List ℕ
-nthText (At e) = rowText e
-nthText (After n) = []
 
 abbrev pub totalsText : Counts → List ℕ
 totalsText c = totals (c .entries) (c .chunks) (c .tiers) (c .free)

@@ -32,7 +32,7 @@ fn list(input: &[u8])
         Examined::Refused(stage) => print::refusal(stage),
         Examined::Ready(z, counts) => {
             print::heading();
-            rows::all(z, img, counts.entries);
+            rows::all(z, img);
             print::totals(counts);
         }
     }

@@ -1,7 +1,7 @@
 use mathlib.Core.Path.{sym, _∙_}
 use native.Mathlib.Omega.{arith}
 use lib.Seq.{length-take-le}
-use Rattle.lister.proofs.Lines.{ready-lines}
+use Rattle.image.proofs.Ready.{ready-framed, ready-tiers}
 use borrow.Author.Needs.{needs}
 use Rattle.lister.proofs.list.Statement.{statement}
 use Rattle.lister.proofs.list.Tie as tie
@@ -36,7 +36,8 @@ heading-requires c κs = search needs
 all-requires : tie.Need-all-requires
 all-requires c κs =
     let p = c .before .before .before .before in let examine = p .examine in
-    ready-lines _ _ _ _ (sym (examine .ensures) ∙ c .before .before .z .given .1)
+    let ready = sym (examine .ensures) ∙ c .before .before .z .given .1 in
+    (ready-framed _ _ _ _ ready, ready-tiers _ _ _ _ ready)
 
 totals-requires : tie.Need-totals-requires
 totals-requires c κs = search needs

@@ -1,56 +1,39 @@
 use native.Mathlib.Omega.{arith}
-use mathlib.Core.Path.{sym, _∙_}
+use Rattle.image.proofs.Picking.{picks-in, picks-after, picks-at}
 use borrow.Author.Needs.{needs}
-use Prim.Native.Nat.{_-_}
-use Rattle.image.proofs.Picking.{InSegments, segments-start, segments-end, segments-found, segments-pass}
 use Rattle.image.proofs.list.nth.Statement.{statement}
 use Rattle.image.proofs.list.nth.Tie as tie
 
-abbrev Inv-loop : tie.InvT-loop
-Inv-loop z img n left₀ s₀ left s = InSegments z img n left s
+start-requires : tie.Need-start-requires
+start-requires c κs = search needs
 
-abbrev μ-loop : tie.MeasureT-loop
-μ-loop z img n left₀ s₀ left s = z .settings .segments - s
+settled-requires : tie.Need-settled-requires
+settled-requires c κs =
+    let start = c .before .before in
+    let z = start .args .z in
+    let img = start .args .img .now in
+    (start .pre .0, start .pre .1, picks-in z img (omega (arith, start .pre .0 .valid .segments)) (c .start .ensures) (start .pre .1))
 
-loop-holds : tie.Need-loop-holds Inv-loop μ-loop
-loop-holds c = segments-start (c .before .args .z) (c .before .args .img .now) (c .before .args .n)
+returns : tie.Need-returns
+returns c =
+    let p = c .before .before in
+    let start = p .before .before .before in
+    let z = start .args .z in
+    let img = start .args .img .now in
+    let settled = p .settled .ensures in
+    picks-after z img (omega (arith, start .pre .0 .valid .segments)) (p .before .start .ensures) (settled .0) (settled .1 .none (c .if1 .taken))
 
-nth-in-chain-requires : tie.Need-nth-in-chain-requires Inv-loop μ-loop
-nth-in-chain-requires c κs = (c .before .before .before .before .pre .0, omega arith, c .before .before .before .before .pre .1 (c .before .before .loop .s) (omega arith))
+entry-requires : tie.Need-entry-requires
+entry-requires c κs = (c .before .before .before .before .before .pre .0, c .before .before .settled .ensures .1 .onFull (c .if1 .left))
 
-enum-known-found : tie.Need-enum-known-found Inv-loop μ-loop
-enum-known-found c = search needs
-
-enum-told : tie.Need-enum-told Inv-loop μ-loop
-enum-told c = search needs
-
-returns : tie.Need-returns Inv-loop μ-loop
-returns c = c .enum-told .given .1 ∙ segments-found (c .before .before .before .before .before .before .before .args .z) (c .before .before .before .before .before .before .before .args .img .now) (c .before .before .before .before .before .before .before .args .n) (c .before .before .before .before .before .loop .inv) (omega arith) (c .enum-told .given .0 .0) (sym (c .before .before .nth-in-chain .ensures) ∙ c .enum-told .given .1)
-
-add-s : tie.Need-add-s Inv-loop μ-loop
-add-s c = omega (arith, c .before .before .before .before .before .before .before .before .pre .0 .valid .segments .1 .1)
-
-loop-less : tie.Need-loop-less Inv-loop μ-loop
-loop-less c = omega arith
-
-loop-again : tie.Need-loop-again Inv-loop μ-loop
-loop-again c = segments-pass (c .before .before .before .before .before .before .before .before .args .z) (c .before .before .before .before .before .before .before .before .args .img .now) (c .before .before .before .before .before .before .before .before .args .n) (c .before .before .before .before .before .before .loop .inv) (omega arith) (c .before .found .given .0 .0) (sym (c .before .before .before .nth-in-chain .ensures) ∙ c .before .found .given .1)
-
-returns-2 : tie.Need-returns-2 Inv-loop μ-loop
-returns-2 c = segments-end (c .before .before .before .before .args .z) (c .before .before .before .before .args .img .now) (c .before .before .before .before .args .n) (c .before .before .loop .inv) (omega arith)
+returns-2 : tie.Need-returns-2
+returns-2 c =
+    let start = c .before .before .before .before .before .before in
+    let z = start .args .z in
+    let img = start .args .img .now in
+    let settled = c .before .before .before .settled .ensures in
+    let full = settled .1 .onFull (c .before .if1 .left) in
+    picks-at z img (omega (arith, start .pre .0 .valid .segments)) (c .before .before .before .before .start .ensures) (settled .0) full (c .entry .ensures)
 
 pub nth-spec : {M : Type 1} → statement M
-nth-spec =
-    tie.close
-    (tie.spec
-    Inv-loop
-    μ-loop
-    loop-holds
-    nth-in-chain-requires
-    enum-known-found
-    enum-told
-    returns
-    add-s
-    loop-less
-    loop-again
-    returns-2)
+nth-spec = tie.close (tie.spec start-requires settled-requires returns entry-requires returns-2)
