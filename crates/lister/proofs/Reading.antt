@@ -18,7 +18,7 @@ use Rattle.image.specs.declared.Stage.{Stage}
 use Rattle.image.specs.declared.Stage.the-variants.{Frame}
 use Rattle.lister.specs.declared.input.Input.{Input}
 use Rattle.lister.specs.declared.input.Input.the-variants.{More, Whole, Refused}
-use Rattle.lister.specs.Input.{blockEnd, imageAt, limit, longest, missing, needed, readingImage, readingLength, fromParsed, reading, Decided, Answers}
+use Rattle.lister.specs.Input.{blockEnd, imageAt, limit, longest, missing, needed, readingImage, readingLength, fromParsed, reading, Decided, HasRead}
 
 -- ---- by cases
 
@@ -96,10 +96,10 @@ module _ (buf : List ℕ) (got : ℕ) (ended : Bool) {r : Input} (fits : (length
       let bounds : Bounds (take got buf) ended (More n) = rw (sym due ∙ e) at (reading-bounds (take got buf) ended) in
       rw (length-take-le got buf (omega arith)) at bounds
 
-  pub answers : {x : Input} → r ≡ x → Decided x → Answers buf x
+  pub answers : {x : Input} → r ≡ x → Decided x → HasRead buf x
   answers e d = record { got = got; ended = ended; within = omega arith; said = sym e ∙ due; decided = d }
 
-pub whole-there : {buf : List ℕ} {r : Input} {n : ℕ} → Answers buf r → r ≡ Whole n → imageAt + n ≤ length buf
+pub whole-there : {buf : List ℕ} {r : Input} {n : ℕ} → HasRead buf r → r ≡ Whole n → imageAt + n ≤ length buf
 whole-there {buf} {r} {n} a e =
     let bounds : Bounds (take (a .got) buf) (a .ended) (Whole n) = rw (sym (a .said) ∙ e) at (reading-bounds (take (a .got) buf) (a .ended)) in
     omega (arith, length-take-le (a .got) buf (a .within))

@@ -59,7 +59,7 @@ Decided (More n) = ⊥
 Decided (Whole n) = Unit
 Decided (Refused s) = Unit
 
-pub record Answers (buf : List ℕ) (r : Input) : Type 0 where
+pub record HasRead (buf : List ℕ) (r : Input) : Type 0 where
   pub got : ℕ
   pub ended : Bool
   pub within : got ≤ length buf

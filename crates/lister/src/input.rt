@@ -4,7 +4,7 @@ use libc::STDIN_FILENO;
 use settings::Parsed;
 ghost use mathlib.Core.Path.{_≡_};
 ghost use lib.ListN.{length};
-ghost use Rattle.lister.specs.Input.{missing as Input·missing, readingLength, reading as Input·reading, longest, Answers};
+ghost use Rattle.lister.specs.Input.{missing as Input·missing, readingLength, reading as Input·reading, longest, HasRead};
 
 // Where the block ends and where the image starts.
 pub const BLOCK_END: usize = 71;
@@ -69,7 +69,7 @@ pub fn reading(read: &[u8], ended: bool) -> Input
 // Reads as far as `reading` asks, and no further.
 pub fn read(buf: &mut [u8]) -> Input
     requires { ⌜ length (now buf) ≡ longest ⌝ }
-    ensures { λ r. ⌜ Answers (now (buf .exit)) r ⌝ }
+    ensures { λ r. ⌜ HasRead (now (buf .exit)) r ⌝ }
 {
     let mut got = 0;
     let mut ended = false;

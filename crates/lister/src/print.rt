@@ -3,11 +3,11 @@ use image::Counts;
 use image::Stage;
 use libc::STDOUT_FILENO;
 use text::Line;
-ghost use Rattle.text.specs.Line.{Holds, Whole};
+ghost use Rattle.text.specs.Line.{Reads, LengthFits};
 ghost use Rattle.lister.specs.Printed.{refusalText, totalsText};
 
 pub fn line(l: Line)
-    requires { ⌜ Whole l ⌝ }
+    requires { ⌜ LengthFits l ⌝ }
 {
     let n = l.len;
     let bytes = l.bytes;
@@ -15,13 +15,13 @@ pub fn line(l: Line)
 }
 
 fn refusal_line(stage: Stage) -> Line
-    ensures { λ r. ⌜ Holds (refusalText stage) r ⌝ }
+    ensures { λ r. ⌜ Reads (refusalText stage) r ⌝ }
 {
     text::refusal_line(image::numbers::stage_number(stage) as u64)
 }
 
 fn totals_line(counts: Counts) -> Line
-    ensures { λ r. ⌜ Holds (totalsText counts) r ⌝ }
+    ensures { λ r. ⌜ Reads (totalsText counts) r ⌝ }
 {
     text::totals_line(
         counts.entries as u64,

@@ -8,11 +8,11 @@ use text::Line;
 ghost use lib.ListN.{length};
 ghost use Rattle.layout.specs.Frame.{Framed};
 ghost use Rattle.search.specs.Search.{ChainTiers};
-ghost use Rattle.text.specs.Line.{Holds};
+ghost use Rattle.text.specs.Line.{Reads};
 ghost use Rattle.lister.specs.Printed.{rowText};
 
 fn row_line(e: Live) -> Line
-    ensures { λ r. ⌜ Holds (rowText e) r ⌝ }
+    ensures { λ r. ⌜ Reads (rowText e) r ⌝ }
 {
     let numbers = image::numbers::row_numbers(e);
     text::numbers_line(&numbers)

@@ -11,7 +11,7 @@ use Rattle.lists.proofs.Lists.{flatMap-append}
 use Rattle.text.specs.declared.line.Line.{Line}
 use Rattle.text.specs.Text.{decimal, spaced, ended}
 use Rattle.text.specs.Lines.{line}
-use Rattle.text.specs.Line.{textOf, Added, AddedWithin, Holds}
+use Rattle.text.specs.Line.{textOf, Added, AddedWithin, Reads}
 
 -- a byte put at the end
 pub put : (l : Line) (b : ℕ) → l .len < length (l .bytes)
@@ -31,11 +31,11 @@ said e a = rw e at a
 pub within : {n : ℕ} {l r : Line} {s : List ℕ} → Added l s r → length s ≤ n → AddedWithin n l s r
 within a h = record { added = a; within = omega (arith, a .len) }
 
-pub holds : {l r : Line} {s : List ℕ} → (textOf l ≡ []) × (l .len ≡ 0) → Added l s r → Holds s r
+pub holds : {l r : Line} {s : List ℕ} → (textOf l ≡ []) × (l .len ≡ 0) → Added l s r → Reads s r
 holds {l} {r} {s} h a =
     let e : textOf r ≡ s = a .text ∙ ap (λ (x : List ℕ). x ++ s) (h .0) in
     let n : r .len ≡ length (textOf r) = omega (arith, ap length e, a .len) in
-    record { text = e; whole = (omega (arith, length-take (r .len) (r .bytes)), n) }
+    record { text = e; lengthFits = (omega (arith, length-take (r .len) (r .bytes)), n) }
 
 -- ---- a loop that adds a piece of at most k bytes for each element
 

@@ -10,13 +10,13 @@ abbrev pub textOf : Line → List ℕ
 textOf l = take (l .len) (l .bytes)
 
 -- its length lies within its bytes. The second part follows from the first: with both, `&bytes[..len]` asks no proof
-abbrev pub Whole : Line → Type 0
-Whole l = (l .len ≤ length (l .bytes)) × (l .len ≡ length (textOf l))
+abbrev pub LengthFits : Line → Type 0
+LengthFits l = (l .len ≤ length (l .bytes)) × (l .len ≡ length (textOf l))
 
 -- s is what stands in it
-pub record Holds (s : List ℕ) (l : Line) : Type 0 where
+pub record Reads (s : List ℕ) (l : Line) : Type 0 where
   pub text : textOf l ≡ s
-  pub whole : Whole l
+  pub lengthFits : LengthFits l
 
 -- ---- what the functions that write a part of it say
 
