@@ -6,6 +6,8 @@ pub mod Calling
 pub mod Steps
 pub mod Covered
 pub mod Keeping
+pub mod Highest
+pub mod Told
 pub mod Refusing
 pub mod Altering
 pub mod Worked

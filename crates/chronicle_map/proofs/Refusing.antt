@@ -1,135 +1,33 @@
 -- Demand 1: which numbers the calls answer, and what a refusal leaves, whatever they are given.
 use Prim.Native.Nat.{ℕ, _+_, _≤_, _<_}
-use mathlib.Core.List.{List, [], _∷_, _++_, map, List·Memᴰ·head, List·Memᴰ·tail}
-use mathlib.Core.Path.{_≡_, refl, ap, sym, _∙_}
+use mathlib.Core.List.{List, [], _∷_, List·Memᴰ·head, List·Memᴰ·tail}
+use mathlib.Core.Path.{_≡_, refl}
 use mathlib.Core.Logic.{_≢_}
 use mathlib.Core.Bool.{Bool, true, false}
 use mathlib.Core.Option.{Option, none, some}
 use native.Mathlib.Omega.{arith}
-use lib.ListN.{length, getD, replicate}
+use lib.ListN.{length, replicate}
 use Rattle.lists.specs.Lists.{span}
 use Rattle.lists.proofs.Lists.{in-span}
-use Rattle.settings.specs.declared.Parsed.{Parsed}
-use Rattle.settings.specs.declared.Parsed.the-variants.{Accepted as parsed, BadBlock, BadField}
-use Rattle.settings.specs.Block.{parse}
-use Rattle.layout.specs.declared.Shape.{Shape}
-use Rattle.layout.specs.Frame.{shapeOf, FrameFits, frameFits?}
-use Rattle.chains.specs.Chains.{ChainsFit, chainsFit?}
+use Rattle.settings.specs.Rules.{Between}
 use Rattle.entries.specs.declared.Live.{Live}
 use Rattle.entries.specs.Live.{live}
-use Rattle.search.specs.Rules.{EntriesFit, entriesFit?}
-use Rattle.chunks.specs.Chunks.{ChunksFit, chunksFit?}
-use Rattle.image.specs.declared.Stage.{Stage}
-use Rattle.image.specs.declared.Stage.the-variants.{Block, Field, Frame, Chains, Entries, Chunks, Key, Value}
-use Rattle.image.specs.declared.Outcome.{Outcome}
-use Rattle.image.specs.declared.Outcome.the-variants as outcome
-use Rattle.image.specs.declared.Counts.{Counts}
 use Rattle.image.specs.declared.Nth.{Nth}
 use Rattle.image.specs.declared.Nth.the-variants.{At, After}
 use Rattle.image.specs.declared.Examined.{Examined}
 use Rattle.image.specs.declared.Examined.the-variants.{Ready, Refused}
-use Rattle.image.specs.declared.Listed.{Listed}
-use Rattle.image.specs.declared.Listed.the-variants as listed
-use Rattle.image.specs.Check.{stageNumber, afterChunks, afterEntries, afterChains, afterFrame, afterBlock, examine, verdictOf, check, outcomeNumbers, verdictNumbers}
+use Rattle.image.specs.Check.{stageNumber, examine, verdictOf, check, verdictNumbers}
 use Rattle.image.specs.List.{pick, fromNth, fromExamined, entry, listedNumbers}
 use Rattle.edit.specs.Edits.{find, noRoom}
 use Rattle.chronicle_map.specs.declared.Located.{Located}
 use Rattle.chronicle_map.specs.declared.Located.the-variants as looked
-use Rattle.chronicle_map.specs.declared.Answer.{Answer}
-use Rattle.chronicle_map.specs.declared.Answer.the-variants as answer
-use Rattle.chronicle_map.specs.Asked.{Given, nothing, aKey, anEntry, GivenKeyFits, givenKeyFits?, GivenValueFits, givenValueFits?, afterValue, afterKey, afterExamined, asked}
+use Rattle.chronicle_map.specs.Asked.{aKey, anEntry, asked}
 use Rattle.chronicle_map.specs.Calls.{numberOf, fromFind, lookedUp, lookup, lookupNumbers, recordAt, recordLength, answerNumber, removeFound, removing, remove, storeUnless, storing, store}
-use Rattle.chronicle_map.specs.Demands.{Answers, Tells, Demand1}
-
--- ---- which stages refuse
-
--- a refusal's number is at most n
-abbrev Most : ℕ → Examined → Type 0
-Most n (Refused s) = stageNumber s ≤ n
-Most n (Ready z c) = Unit {0}
-
-module _ (z : Shape) (img : List ℕ) where
-  chunks-most : (d : Dec (ChunksFit z img)) → Most 7 (afterChunks z img d)
-  unfolding afterChunks
-  chunks-most (no _) = omega arith
-  chunks-most (yes _) = tt
-
-  entries-most : (d : Dec (EntriesFit z img)) → Most 7 (afterEntries z img d)
-  unfolding afterEntries
-  entries-most (no _) = omega arith
-  entries-most (yes _) = chunks-most (chunksFit? z img)
-
-  chains-most : (d : Dec (ChainsFit z img)) → Most 7 (afterChains z img d)
-  unfolding afterChains
-  chains-most (no _) = omega arith
-  chains-most (yes _) = entries-most (entriesFit? z img)
-
-  frame-most : (d : Dec (FrameFits z img)) → Most 7 (afterFrame z img d)
-  unfolding afterFrame
-  frame-most (no _) = omega arith
-  frame-most (yes _) = chains-most (chainsFit? z img)
-
-block-most : (img : List ℕ) (p : Parsed) → Most 7 (afterBlock img p)
-unfolding afterBlock
-block-most img BadBlock = omega arith
-block-most img BadField = omega arith
-block-most img (parsed st) = frame-most (shapeOf st img) img (frameFits? (shapeOf st img) img)
-
-examine-most : (block img : List ℕ) → Most 7 (examine block img)
-unfolding examine
-examine-most block img = block-most img (parse block)
-
--- 8 where a key is given, 9 where a record is given too
-
-abbrev highest : Given → ℕ
-highest nothing = 7
-highest (aKey key) = 8
-highest (anEntry key value) = 9
-
-module _ (z : Shape) (c : Counts) where
-  value-most : (g : Given) (d : Dec (GivenValueFits (z .settings) g)) → Most (highest g) (afterValue z c g d)
-  unfolding afterValue
-  value-most nothing (no n) = absurd (n tt)
-  value-most (aKey key) (no n) = absurd (n tt)
-  value-most (anEntry key value) (no n) = omega arith
-  value-most nothing (yes _) = tt
-  value-most (aKey key) (yes _) = tt
-  value-most (anEntry key value) (yes _) = tt
-
-  key-most : (g : Given) (d : Dec (GivenKeyFits (z .settings) g)) → Most (highest g) (afterKey z c g d)
-  unfolding afterKey
-  key-most nothing (no n) = absurd (n tt)
-  key-most (aKey key) (no n) = omega arith
-  key-most (anEntry key value) (no n) = omega arith
-  key-most nothing (yes _) = value-most nothing (givenValueFits? (z .settings) nothing)
-  key-most (aKey key) (yes _) = value-most (aKey key) (givenValueFits? (z .settings) (aKey key))
-  key-most (anEntry key value) (yes _) = value-most (anEntry key value) (givenValueFits? (z .settings) (anEntry key value))
-
-highest-least : (g : Given) → 7 ≤ highest g
-highest-least nothing = omega arith
-highest-least (aKey key) = omega arith
-highest-least (anEntry key value) = omega arith
-
-examined-most : (g : Given) (x : Examined) → Most 7 x → Most (highest g) (afterExamined g x)
-unfolding afterExamined
-examined-most g (Refused s) w = omega (arith, w, highest-least g)
-examined-most g (Ready z c) w = key-most z c g (givenKeyFits? (z .settings) g)
-
-asked-most : (block img : List ℕ) (g : Given) → Most (highest g) (asked block img g)
-unfolding asked
-asked-most block img g = examined-most g (examine block img) (examine-most block img)
+use Rattle.chronicle_map.specs.Demands.{Answers, Demand1}
+use Rattle.chronicle_map.proofs.Highest.{Most, Not8, stage-least, examine-most, asked-most, asked-not-8}
+use Rattle.chronicle_map.proofs.Told.{stages-told, checks-told, lists-told, lookups-told, edits-told}
 
 -- ---- the numbers of the answers
-
-stage-least : (s : Stage) → 2 ≤ stageNumber s
-stage-least Block = omega arith
-stage-least Field = omega arith
-stage-least Frame = omega arith
-stage-least Chains = omega arith
-stage-least Entries = omega arith
-stage-least Chunks = omega arith
-stage-least Key = omega arith
-stage-least Value = omega arith
 
 -- an answer 0, and another number among those from a on, with nothing but zeros after it
 module _ (a n : ℕ) (rest : List ℕ) where
@@ -208,68 +106,34 @@ module _ (img key : List ℕ) where
         by-room true n = refl
         by-room false n = absurd (n refl)
 
--- ---- a number tells its refusal: the answer is found again by its number
+-- ---- a key that fits is never refused with 8
 
-stages : List Stage
-stages = Block ∷ Field ∷ Frame ∷ Chains ∷ Entries ∷ Chunks ∷ Key ∷ Value ∷ []
-
-module _ {A : Type 0} (refused : Stage → A) where
-  -- the answers with numbers 1 to 10
-  abbrev numbered : A → A → ℕ → A
-  numbered one ten n = getD (one ∷ one ∷ (map refused stages ++ (ten ∷ []))) n one
-
-  stage-numbered : (one ten : A) (s : Stage) → numbered one ten (stageNumber s) ≡ refused s
-  unfolding stages
-  stage-numbered one ten Block = refl
-  stage-numbered one ten Field = refl
-  stage-numbered one ten Frame = refl
-  stage-numbered one ten Chains = refl
-  stage-numbered one ten Entries = refl
-  stage-numbered one ten Chunks = refl
-  stage-numbered one ten Key = refl
-  stage-numbered one ten Value = refl
-
-tells-by : {A : Type 0} (number : A → ℕ) (of : ℕ → A) → ((a : A) → number a ≢ 0 → of (number a) ≡ a) → Tells number
-tells-by number of back a b ne e = sym (back a ne) ∙ ap of e ∙ back b (λ z. ne (e ∙ z))
-
-stages-told : Tells stageNumber
-stages-told = tells-by stageNumber (numbered (λ s. s) Block Block) (λ s ne. stage-numbered (λ s. s) Block Block s)
-
-checks-told : Tells (λ (v : Outcome). numberOf (outcomeNumbers v))
-checks-told = tells-by _ (numbered outcome.Refused (outcome.Refused Block) (outcome.Refused Block)) back
+looked-not-8 : (img key : List ℕ) (x : Examined) → Not8 x → numberOf (lookupNumbers (lookedUp img key x)) ≢ 8
+unfolding lookedUp fromFind
+looked-not-8 img key (Refused s) n = n
+looked-not-8 img key (Ready z c) n = by-find (find z img key)
   where
-    back : (v : Outcome) → numberOf (outcomeNumbers v) ≢ 0
-        → numbered outcome.Refused (outcome.Refused Block) (outcome.Refused Block) (numberOf (outcomeNumbers v)) ≡ v
-    back (outcome.Accepted c) ne = absurd (ne refl)
-    back (outcome.Refused s) ne = stage-numbered outcome.Refused _ _ s
+    by-find : (o : Option Live) → numberOf (lookupNumbers (fromFind o)) ≢ 8
+    by-find none = omega arith
+    by-find (some e) = omega arith
 
-lists-told : Tells (λ (l : Listed). numberOf (listedNumbers l))
-unfolding stages
-lists-told = tells-by _ (numbered listed.Refused listed.Past listed.Past) back
+stored-not-8 : (img key value : List ℕ) (x : Examined) → Not8 x → answerNumber (storing img key value x .answer) ≢ 8
+unfolding storing storeUnless
+stored-not-8 img key value (Refused s) n = n
+stored-not-8 img key value (Ready z c) n = by-room (noRoom z img key value)
   where
-    back : (l : Listed) → numberOf (listedNumbers l) ≢ 0 → numbered listed.Refused listed.Past listed.Past (numberOf (listedNumbers l)) ≡ l
-    back (listed.Row e) ne = absurd (ne refl)
-    back listed.Past ne = refl
-    back (listed.Refused s) ne = stage-numbered listed.Refused _ _ s
+    by-room : (r : Bool) → answerNumber (storeUnless z img key value r .answer) ≢ 8
+    by-room true = omega arith
+    by-room false = omega arith
 
-lookups-told : Tells (λ (l : Located). numberOf (lookupNumbers l))
-unfolding stages
-lookups-told = tells-by _ (numbered looked.Refused looked.Absent looked.Absent) back
-  where
-    back : (l : Located) → numberOf (lookupNumbers l) ≢ 0 → numbered looked.Refused looked.Absent looked.Absent (numberOf (lookupNumbers l)) ≡ l
-    back (looked.Found at n) ne = absurd (ne refl)
-    back looked.Absent ne = refl
-    back (looked.Refused s) ne = stage-numbered looked.Refused _ _ s
+module _ (block img key : List ℕ) (fits : Between 1 1024 (length key)) where
+  pub lookup-not-8 : numberOf (lookupNumbers (lookup block img key)) ≢ 8
+  unfolding lookup
+  lookup-not-8 = looked-not-8 img key (asked block img (aKey key)) (asked-not-8 block img (aKey key) (λ st. fits))
 
-edits-told : Tells answerNumber
-unfolding stages
-edits-told = tells-by _ (numbered answer.Refused answer.Absent answer.Full) back
-  where
-    back : (a : Answer) → answerNumber a ≢ 0 → numbered answer.Refused answer.Absent answer.Full (answerNumber a) ≡ a
-    back answer.Done ne = absurd (ne refl)
-    back answer.Absent ne = refl
-    back answer.Full ne = refl
-    back (answer.Refused s) ne = stage-numbered answer.Refused _ _ s
+  pub store-not-8 : (value : List ℕ) → answerNumber (store block img key value .answer) ≢ 8
+  unfolding store
+  store-not-8 value = stored-not-8 img key value (asked block img (anEntry key value)) (asked-not-8 block img (anEntry key value) (λ st. fits))
 
 -- ---- all of it
 

@@ -1,0 +1,81 @@
+-- A number tells its refusal: the answer is found again by its number.
+use Prim.Native.Nat.{ℕ}
+use mathlib.Core.List.{List, [], _∷_, _++_, map}
+use mathlib.Core.Path.{_≡_, refl, ap, sym, _∙_}
+use mathlib.Core.Logic.{_≢_}
+use lib.ListN.{getD}
+use Rattle.image.specs.declared.Stage.{Stage}
+use Rattle.image.specs.declared.Stage.the-variants.{Block, Field, Frame, Chains, Entries, Chunks, Key, Value}
+use Rattle.image.specs.declared.Outcome.{Outcome}
+use Rattle.image.specs.declared.Outcome.the-variants as outcome
+use Rattle.image.specs.declared.Listed.{Listed}
+use Rattle.image.specs.declared.Listed.the-variants as listed
+use Rattle.image.specs.Check.{stageNumber, outcomeNumbers}
+use Rattle.image.specs.List.{listedNumbers}
+use Rattle.chronicle_map.specs.declared.Located.{Located}
+use Rattle.chronicle_map.specs.declared.Located.the-variants as looked
+use Rattle.chronicle_map.specs.declared.Answer.{Answer}
+use Rattle.chronicle_map.specs.declared.Answer.the-variants as answer
+use Rattle.chronicle_map.specs.Calls.{numberOf, lookupNumbers, answerNumber}
+use Rattle.chronicle_map.specs.Demands.{Tells}
+
+stages : List Stage
+stages = Block ∷ Field ∷ Frame ∷ Chains ∷ Entries ∷ Chunks ∷ Key ∷ Value ∷ []
+
+module _ {A : Type 0} (refused : Stage → A) where
+  -- the answers with numbers 1 to 10
+  abbrev numbered : A → A → ℕ → A
+  numbered one ten n = getD (one ∷ one ∷ (map refused stages ++ (ten ∷ []))) n one
+
+  stage-numbered : (one ten : A) (s : Stage) → numbered one ten (stageNumber s) ≡ refused s
+  unfolding stages
+  stage-numbered one ten Block = refl
+  stage-numbered one ten Field = refl
+  stage-numbered one ten Frame = refl
+  stage-numbered one ten Chains = refl
+  stage-numbered one ten Entries = refl
+  stage-numbered one ten Chunks = refl
+  stage-numbered one ten Key = refl
+  stage-numbered one ten Value = refl
+
+tells-by : {A : Type 0} (number : A → ℕ) (of : ℕ → A) → ((a : A) → number a ≢ 0 → of (number a) ≡ a) → Tells number
+tells-by number of back a b ne e = sym (back a ne) ∙ ap of e ∙ back b (λ z. ne (e ∙ z))
+
+pub stages-told : Tells stageNumber
+stages-told = tells-by stageNumber (numbered (λ s. s) Block Block) (λ s ne. stage-numbered (λ s. s) Block Block s)
+
+pub checks-told : Tells (λ (v : Outcome). numberOf (outcomeNumbers v))
+checks-told = tells-by _ (numbered outcome.Refused (outcome.Refused Block) (outcome.Refused Block)) back
+  where
+    back : (v : Outcome) → numberOf (outcomeNumbers v) ≢ 0
+        → numbered outcome.Refused (outcome.Refused Block) (outcome.Refused Block) (numberOf (outcomeNumbers v)) ≡ v
+    back (outcome.Accepted c) ne = absurd (ne refl)
+    back (outcome.Refused s) ne = stage-numbered outcome.Refused _ _ s
+
+pub lists-told : Tells (λ (l : Listed). numberOf (listedNumbers l))
+unfolding stages
+lists-told = tells-by _ (numbered listed.Refused listed.Past listed.Past) back
+  where
+    back : (l : Listed) → numberOf (listedNumbers l) ≢ 0 → numbered listed.Refused listed.Past listed.Past (numberOf (listedNumbers l)) ≡ l
+    back (listed.Row e) ne = absurd (ne refl)
+    back listed.Past ne = refl
+    back (listed.Refused s) ne = stage-numbered listed.Refused _ _ s
+
+pub lookups-told : Tells (λ (l : Located). numberOf (lookupNumbers l))
+unfolding stages
+lookups-told = tells-by _ (numbered looked.Refused looked.Absent looked.Absent) back
+  where
+    back : (l : Located) → numberOf (lookupNumbers l) ≢ 0 → numbered looked.Refused looked.Absent looked.Absent (numberOf (lookupNumbers l)) ≡ l
+    back (looked.Found at n) ne = absurd (ne refl)
+    back looked.Absent ne = refl
+    back (looked.Refused s) ne = stage-numbered looked.Refused _ _ s
+
+pub edits-told : Tells answerNumber
+unfolding stages
+edits-told = tells-by _ (numbered answer.Refused answer.Absent answer.Full) back
+  where
+    back : (a : Answer) → answerNumber a ≢ 0 → numbered answer.Refused answer.Absent answer.Full (answerNumber a) ≡ a
+    back answer.Done ne = absurd (ne refl)
+    back answer.Absent ne = refl
+    back answer.Full ne = refl
+    back (answer.Refused s) ne = stage-numbered answer.Refused _ _ s
