@@ -168,7 +168,8 @@ module _ (block img : List ℕ) (b : Bytes img) (a : Accepted block img) where
   unfolding fromFind
   looks-up key = record { stored = there; none = not-there }
     where
-      there : (e : Live) → List·Memᴰ e (live z img) → keyOf img (e .entry) ≡ key → lookup block img key ≡ looked.Found (e .entry .valueAt) (e .entry .valueLength)
+      there : (e : Live) → List·Memᴰ e (live z img) → keyOf img (e .entry) ≡ key
+          → lookup block img key ≡ looked.Found (e .entry .valueAt) (e .entry .valueLength)
       there e m k =
           let fits : KeyFits (z .settings) (length key) = rw k at (live-key-fits z img (h .sound) e (live-in z img e m)) in
           lookup-is key fits ∙ ap fromFind (found-only z img (h .sound) key e m k)
@@ -179,7 +180,8 @@ module _ (block img : List ℕ) (b : Bytes img) (a : Accepted block img) where
           by-find : (o : Option Live) → find z img key ≡ o → o ≡ none
           by-find none f = refl
           by-find (some e) f =
-              absurd (let q : some (pairOf img e) ≡ none = sym (map-found z img (h .sound) (pairsOf z img) (λ F. refl) key e f) ∙ g in let n : _≡_ {A = ℕ} 0 1 = cc in omega arith)
+              let q : some (pairOf img e) ≡ none = sym (map-found z img (h .sound) (pairsOf z img) (λ F. refl) key e f) ∙ g in
+              absurd (let n : _≡_ {A = ℕ} 0 1 = cc in omega arith)
 
   -- an edit whose image agrees with the map that has the key altered
 
@@ -200,11 +202,12 @@ module _ (block img : List ℕ) (b : Bytes img) (a : Accepted block img) where
   unfolding leaves says recall unless
   stored key value kb vb e =
       let s : Step block img z h (pairsOf z img) (λ F. refl) (stores key value) = step block img z h (pairsOf z img) (λ F. refl) (stores key value) (kb, vb) in
-      let n : recall (z .settings) (pairsOf z img) (stores key value) (row10 block img (stores key value)) .said .number ≡ 0 = ap (λ (x : Said). x .number) (sym (s .said)) ∙ e in
+      let n : recall (z .settings) (pairsOf z img) (stores key value) (row10 block img (stores key value)) .said .number ≡ 0 =
+      ap (λ (x : Said). x .number) (sym (s .said)) ∙ e in
       let m : recall (z .settings) (pairsOf z img) (stores key value) (row10 block img (stores key value)) .map ≡ mapSet (pairsOf z img) key value =
       store-zero (z .settings) (pairsOf z img) key value (row10 block img (stores key value)) (givenKeyFits? (z .settings) (anEntry key value)) n in
-      alters (store block img key value .image) key (mapSet (pairsOf z img) key value) (some (record { key = key; value = value })) (s .holds) (rw m at (s .weighs))
-      (set-own (pairsOf z img) key value) (set-other (pairsOf z img) key value)
+      alters (store block img key value .image) key (mapSet (pairsOf z img) key value) (some (record { key = key; value = value })) (s .holds)
+      (rw m at (s .weighs)) (set-own (pairsOf z img) key value) (set-other (pairsOf z img) key value)
 
   removed : (key : List ℕ) → Bytes key → answerNumber (remove block img key .answer) ≡ 0 → Alters block img (remove block img key .image) key none
   unfolding leaves says recall unless
@@ -213,7 +216,8 @@ module _ (block img : List ℕ) (b : Bytes img) (a : Accepted block img) where
       let n : recall (z .settings) (pairsOf z img) (removes key) false .said .number ≡ 0 = ap (λ (x : Said). x .number) (sym (s .said)) ∙ e in
       let m : recall (z .settings) (pairsOf z img) (removes key) false .map ≡ mapDrop (pairsOf z img) key =
       remove-zero (z .settings) (pairsOf z img) key (givenKeyFits? (z .settings) (aKey key)) n in
-      alters (remove block img key .image) key (mapDrop (pairsOf z img) key) none (s .holds) (rw m at (s .weighs)) (drop-own (pairsOf z img) key) (drop-other (pairsOf z img) key)
+      alters (remove block img key .image) key (mapDrop (pairsOf z img) key) none (s .holds) (rw m at (s .weighs))
+      (drop-own (pairsOf z img) key) (drop-other (pairsOf z img) key)
 
   pub demand2 : Demand2 block img
   demand2 =

@@ -26,7 +26,8 @@ use Rattle.chronicle_map.proofs.Accepting.{Holds, holds-shape, holds-re
 use Rattle.chronicle_map.proofs.Mapping.{map-found, map-none}
 
 -- what the refusals are, once the image is accepted
-pub asked-holds : (block img : List ℕ) (z : Shape) → Holds block img z → (g : Given) → asked block img g ≡ afterKey z (countsOf z img) g (givenKeyFits? (z .settings) g)
+pub asked-holds : (block img : List ℕ) (z : Shape) → Holds block img z → (g : Given)
+    → asked block img g ≡ afterKey z (countsOf z img) g (givenKeyFits? (z .settings) g)
 unfolding asked afterExamined
 asked-holds block img z h g = ap (afterExamined g) (holds-ready block img z h)
 
@@ -72,8 +73,12 @@ module _ (block img : List ℕ) (z : Shape) (h : Holds block img z) (m : Map) (w
   removed : (key : List ℕ) (o : Option Live) (q : Option Pair) → find z img key ≡ o → mapGet m key ≡ q → Agrees (removeFound z img key o) (mapRemove m key q)
   unfolding removeFound mapRemove mapDrop hasKey
   removed key none none f g = record { said = refl; holds = h; weighs = w }
-  removed key none (some p) f g = absurd (let e : some p ≡ none = sym g ∙ map-none z img (h .sound) m w key f in let n : _≡_ {A = ℕ} 0 1 = cc in omega arith)
-  removed key (some e) none f g = absurd (let q : none ≡ some (pairOf img e) = sym g ∙ map-found z img (h .sound) m w key e f in let n : _≡_ {A = ℕ} 0 1 = cc in omega arith)
+  removed key none (some p) f g =
+      let e : some p ≡ none = sym g ∙ map-none z img (h .sound) m w key f in
+      absurd (let n : _≡_ {A = ℕ} 0 1 = cc in omega arith)
+  removed key (some e) none f g =
+      let q : none ≡ some (pairOf img e) = sym g ∙ map-found z img (h .sound) m w key e f in
+      absurd (let n : _≡_ {A = ℕ} 0 1 = cc in omega arith)
   removed key (some e) (some p) f g =
       record {
         said = refl;
@@ -100,14 +105,17 @@ module _ (block img : List ℕ) (z : Shape) (h : Holds block img z) (m : Map) (w
               ∙ ap (λ (n : ℕ). F (record { key = key; value = value }) + n) (weigh-those (λ p. not (same (p .key) key)) (pairsOf z img) m w F);
         }
 
-    store-value : GivenKeyFits (z .settings) (anEntry key value) → (d : Dec (GivenValueFits (z .settings) (anEntry key value))) → (b : Bool) → noRoom z img key value ≡ b
-        → Agrees (storing img key value (afterValue z (countsOf z img) (anEntry key value) d)) (unlessValue (z .settings) (anEntry key value) m (mapStore m key value b) d)
+    store-value : GivenKeyFits (z .settings) (anEntry key value) → (d : Dec (GivenValueFits (z .settings) (anEntry key value))) → (b : Bool)
+        → noRoom z img key value ≡ b
+        → Agrees (storing img key value (afterValue z (countsOf z img) (anEntry key value) d))
+        (unlessValue (z .settings) (anEntry key value) m (mapStore m key value b) d)
     unfolding afterValue storing unlessValue
     store-value k (no n) b e = record { said = refl; holds = h; weighs = w }
     store-value k (yes v) b e = rw e (stored k v b e)
 
     store-agrees : (d : Dec (GivenKeyFits (z .settings) (anEntry key value))) → (b : Bool) → noRoom z img key value ≡ b
-        → Agrees (storing img key value (afterKey z (countsOf z img) (anEntry key value) d)) (unlessKey (z .settings) (anEntry key value) m (mapStore m key value b) d)
+        → Agrees (storing img key value (afterKey z (countsOf z img) (anEntry key value) d))
+        (unlessKey (z .settings) (anEntry key value) m (mapStore m key value b) d)
     unfolding afterKey storing unlessKey
     store-agrees (no n) b e = record { said = refl; holds = h; weighs = w }
     store-agrees (yes k) b e = store-value k (givenValueFits? (z .settings) (anEntry key value)) b e
@@ -133,6 +141,7 @@ module _ (block img : List ℕ) (z : Shape) (h : Holds block img z) (m : Map) (w
       record { said = a .said; holds = a .holds; weighs = a .weighs }
   step (stores key value) b =
       let a : Agrees (store block img key value) (unless (z .settings) (anEntry key value) m (mapStore m key value (noRoom z img key value))) =
-      rw (asked-holds block img z h (anEntry key value)) (store-agrees key value (b .0) (b .1) (givenKeyFits? (z .settings) (anEntry key value)) (noRoom z img key value) refl) in
+      rw (asked-holds block img z h (anEntry key value))
+      (store-agrees key value (b .0) (b .1) (givenKeyFits? (z .settings) (anEntry key value)) (noRoom z img key value) refl) in
       let e : shapeOf (settingsOf block) img ≡ z = holds-shape block img z h in
       record { said = rw e (a .said); holds = a .holds; weighs = rw e (a .weighs) }

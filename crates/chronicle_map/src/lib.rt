@@ -115,7 +115,8 @@ pub fn record<'a>(block: &[u8], img: &'a [u8], key: &[u8]) -> &'a [u8]
 // Removes the entry of a key from an accepted image.
 fn take(z: Shape, img: &mut [u8], key: &[u8]) -> Answer
     requires { ⌜ SoundImage z (now img) ⌝ }
-    ensures { λ r. ⌜ record { answer = r; image = now (img .exit) } ≡ removeFound z (now (img .entry)) (now (key .entry)) (find z (now (img .entry)) (now (key .entry))) ⌝ }
+    ensures { λ r. ⌜ record { answer = r; image = now (img .exit) }
+        ≡ removeFound z (now (img .entry)) (now (key .entry)) (find z (now (img .entry)) (now (key .entry))) ⌝ }
 {
     if edit::remove(z, img, key) {
         return Answer::Done;
@@ -136,7 +137,8 @@ pub fn remove(block: &[u8], img: &mut [u8], key: &[u8]) -> Answer
 // Stores a record under a key in an accepted image.
 fn give(z: Shape, img: &mut [u8], key: &[u8], value: &[u8]) -> Answer
     requires { ⌜ SoundImage z (now img) × KeyFits (z .settings) (length (now key)) × ValueFits (z .settings) (now key) (now value) ⌝ }
-    ensures { λ r. ⌜ record { answer = r; image = now (img .exit) } ≡ storeUnless z (now (img .entry)) (now (key .entry)) (now (value .entry)) (noRoom z (now (img .entry)) (now (key .entry)) (now (value .entry))) ⌝ }
+    ensures { λ r. ⌜ record { answer = r; image = now (img .exit) }
+        ≡ storeUnless z (now (img .entry)) (now (key .entry)) (now (value .entry)) (noRoom z (now (img .entry)) (now (key .entry)) (now (value .entry))) ⌝ }
 {
     if edit::store(z, img, key, value) {
         return Answer::Done;
@@ -146,7 +148,8 @@ fn give(z: Shape, img: &mut [u8], key: &[u8], value: &[u8]) -> Answer
 
 // Stores a record under a key, or replaces the one that is there.
 pub fn store(block: &[u8], img: &mut [u8], key: &[u8], value: &[u8]) -> Answer
-    ensures { λ r. ⌜ record { answer = r; image = now (img .exit) } ≡ Calls·store (now (block .entry)) (now (img .entry)) (now (key .entry)) (now (value .entry)) ⌝ }
+    ensures { λ r. ⌜ record { answer = r; image = now (img .exit) }
+        ≡ Calls·store (now (block .entry)) (now (img .entry)) (now (key .entry)) (now (value .entry)) ⌝ }
 {
     match asked_entry(block, img, key, value) {
         Examined::Refused(stage) => Answer::Refused(stage),

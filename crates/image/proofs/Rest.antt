@@ -1,5 +1,5 @@
 -- What is left of the live entries from a cursor on, and how the cursor moves on.
-use Prim.Native.Nat.{ℕ, zero, suc, _+_, _-_, _≤_, _<_}
+use Prim.Native.Nat.{ℕ, suc, _+_, _-_, _≤_, _<_}
 use mathlib.Core.List.{List, [], _∷_, _++_, map, flatMap, append-assoc, List·Memᴰ·head, List·Memᴰ·tail}
 use mathlib.Core.Path.{_≡_, refl, ap, sym, _∙_, subst}
 use mathlib.Core.Logic.{_≢_}
@@ -8,7 +8,7 @@ use native.Mathlib.Omega.{arith}
 use native.Mathlib.Numerals.{add-one}
 use lib.Dec.{eqb}
 use lib.ListN.{drop, length-append}
-use lib.Seq.{drop-append-add}
+use lib.Seq.{drop-nil, drop-append-add}
 use borrow.Author.Tests.{ne-eqb, eq-eqb}
 use Rattle.lists.specs.Lists.{span, those}
 use Rattle.lists.specs.Quantify.{every-none}
@@ -36,10 +36,6 @@ atTier c t = record { segment = c .segment; tier = t; left = c .left - 1; slot =
 
 abbrev atEnd : LiveCursor → LiveCursor
 atEnd c = record { segment = c .segment; tier = c .tier; left = 0; slot = c .slot; skip = c .skip }
-
-drop-none : (n : ℕ) → drop {A = Live} n [] ≡ []
-drop-none zero = refl
-drop-none (suc n) = refl
 
 module _ (z : Shape) (img : List ℕ) where
   open Shape z using (settings)
@@ -193,19 +189,19 @@ module _ (z : Shape) (img : List ℕ) where
     tier-met = met-tier d still-left still-tier (w .moves .inChain)
 
     module _ (h : d .slot < slots) where
-      on : {k : ℕ} → Moves z img d (atSlot d (d .slot + 1) k) → InTier z img c (atSlot d (d .slot + 1) k)
-      on v = record { moves = moves-more (w .moves) v; segmentIs = w .segmentIs; tierIs = w .tierIs; leftIs = w .leftIs }
+      tier-moves : {k : ℕ} → Moves z img d (atSlot d (d .slot + 1) k) → InTier z img c (atSlot d (d .slot + 1) k)
+      tier-moves v = record { moves = moves-more (w .moves) v; segmentIs = w .segmentIs; tierIs = w .tierIs; leftIs = w .leftIs }
 
       module _ {v : ℕ} (is : v ≡ slotAt z img (d .tier) (d .slot)) where
         pub tier-empty : v ≡ 0 → InTier z img c (atSlot d (d .slot + 1) (d .skip))
-        tier-empty e = on (moves-on (slot-in (w .moves .inChain) _ _) (ahead-empty d still-left still-tier h (sym is ∙ e)) refl)
+        tier-empty e = tier-moves (moves-on (slot-in (w .moves .inChain) _ _) (ahead-empty d still-left still-tier h (sym is ∙ e)) refl)
 
         module _ (full : v ≢ 0) where
           full′ : slotAt z img (d .tier) (d .slot) ≢ 0
           full′ e = full (is ∙ e)
 
           pub tier-over : d .skip ≢ 0 → InTier z img c (atSlot d (d .slot + 1) (d .skip - 1))
-          tier-over k = on (moves-over (slot-in (w .moves .inChain) _ _) (ahead-full d still-left still-tier h full′ (d .skip - 1)) (omega arith))
+          tier-over k = tier-moves (moves-over (slot-in (w .moves .inChain) _ _) (ahead-full d still-left still-tier h full′ (d .skip - 1)) (omega arith))
 
           pub tier-found : d .skip ≡ 0 → OnFull z img d
           tier-found k = record { some = still-left; tierIn = tier-met; slotIn = h; full = full′; skipIs = k }
@@ -254,7 +250,7 @@ module _ (z : Shape) (img : List ℕ) where
 
   pub rest-none : (d : LiveCursor) → ahead z img d ≡ [] → rest z img d ≡ []
   unfolding rest
-  rest-none d e = rw e (drop-none (d .skip))
+  rest-none d e = rw e (drop-nil (d .skip))
 
   -- what a caller has from a step that gave an entry
   pub step-at : {es : List Live} {r : Step} {e : Live} {d : LiveCursor} → Steps z img es r → r ≡ At e d → InChain z img d × (es ≡ e ∷ rest z img d)

@@ -1,14 +1,15 @@
 -- What is decided before the input ends is what `reading` says of the whole input, whatever follows.
-use Prim.Native.Nat.{ℕ, zero, suc, _+_, _≤_, _<_}
+use Prim.Native.Nat.{ℕ, _+_, _≤_, _<_}
 use mathlib.Core.Bool.{Bool, false}
 use mathlib.Core.List.{List, _++_}
 use mathlib.Core.Path.{_≡_, refl}
 use mathlib.Core.Logic.{⊎-elim}
 use native.Mathlib.Omega.{arith}
-use lib.ListN.{length, take, length-append, List·getD-append}
+use lib.ListN.{length, take, length-append}
 use lib.Seq.{take-append-le}
 use Rattle.lists.specs.Cases.{lt-or}
 use Rattle.words.specs.Numbers.{be}
+use Rattle.words.proofs.Numbers.{be-append}
 use Rattle.settings.specs.declared.Parsed.{Parsed}
 use Rattle.settings.specs.declared.Parsed.the-variants.{Accepted, BadBlock, BadField}
 use Rattle.settings.specs.Block.{parse}
@@ -18,11 +19,6 @@ use Rattle.lister.specs.declared.input.Input.{Input}
 use Rattle.lister.specs.declared.input.Input.the-variants.{Whole}
 use Rattle.lister.specs.Input.{blockEnd, imageAt, limit, needed, readingImage, readingLength, fromParsed, reading, Decided}
 use Rattle.lister.proofs.Reading.{needed-short, needed-there, image-long, image-short}
-
-be-append : (l rest : List ℕ) (at n : ℕ) → at + n ≤ length l → be (l ++ rest) at n ≡ be l at n
-unfolding be
-be-append l rest at zero h = refl
-be-append l rest at (suc n) h = rw (be-append l rest at n (omega arith), List·getD-append l rest 0 (at + n) (omega arith))
 
 module _ (read rest : List ℕ) (ended : Bool) where
   needed-stays : (s : Stage) (n : ℕ) (next next′ : Input) → (n ≤ length read → Decided next → next′ ≡ next)

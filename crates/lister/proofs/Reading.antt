@@ -96,8 +96,8 @@ module _ (buf : List ℕ) (got : ℕ) (ended : Bool) {r : Input} (fits : (length
       let bounds : Bounds (take got buf) ended (More n) = rw (sym due ∙ e) at (reading-bounds (take got buf) ended) in
       rw (length-take-le got buf (omega arith)) at bounds
 
-  pub answers : {x : Input} → r ≡ x → Decided x → HasRead buf x
-  answers e d = record { got = got; ended = ended; within = omega arith; said = sym e ∙ due; decided = d }
+  pub has-read : {x : Input} → r ≡ x → Decided x → HasRead buf x
+  has-read e d = record { got = got; ended = ended; within = omega arith; said = sym e ∙ due; decided = d }
 
 pub whole-there : {buf : List ℕ} {r : Input} {n : ℕ} → HasRead buf r → r ≡ Whole n → imageAt + n ≤ length buf
 whole-there {buf} {r} {n} a e =

@@ -7,7 +7,8 @@ use mathlib.Core.Bool.{Bool, true, false}
 use native.Mathlib.Omega.{arith}
 use native.Mathlib.Nat.{zero-add, add-zero, add-suc}
 use native.Mathlib.Numerals.{add-one}
-use lib.ListN.{length, getD, length-append}
+use lib.ListN.{length, getD, take, length-append}
+use lib.Seq.{take-suc}
 use lib.Dec.{eqb}
 use borrow.Author.Tests.{eq-eqb, ne-eqb, eqb-true, eqb-false}
 use Rattle.lists.specs.Cases.{by-test, same-or}
@@ -51,10 +52,21 @@ module _ {A : Type 0} where
   flatMap-append f [] ys = refl
   flatMap-append f (x ∷ xs) ys = ap (λ (r : List A). f x ++ r) (flatMap-append f xs ys) ∙ sym (append-assoc (f x) (flatMap f xs) (flatMap f ys))
 
-  pub flatMap-below : (f : ℕ → List A) (n : ℕ) → flatMap f (below (n + 1)) ≡ flatMap f (below n) ++ f n
+  -- with one element more at the end
+  flatMap-last : {B : Type 0} (f : B → List A) (xs : List B) (x : B) → flatMap f (xs ++ (x ∷ [])) ≡ flatMap f xs ++ f x
   unfolding flatMap
-  flatMap-below f n =
-      rw (add-one, span-more 0 n, zero-add) (flatMap-append f (below n) (n ∷ []) ∙ ap (λ (r : List A). flatMap f (below n) ++ r) (append-nil (f n)))
+  flatMap-last f xs x = flatMap-append f xs (x ∷ []) ∙ ap (λ (r : List A). flatMap f xs ++ r) (append-nil (f x))
+
+  pub flatMap-below : (f : ℕ → List A) (n : ℕ) → flatMap f (below (n + 1)) ≡ flatMap f (below n) ++ f n
+  flatMap-below f n = rw (add-one, span-more 0 n, zero-add) (flatMap-last f (below n) n)
+
+  pub flatMap-take-more : (f : ℕ → List A) (xs : List ℕ) (i : ℕ) → i < length xs → flatMap f (take (i + 1) xs) ≡ flatMap f (take i xs) ++ f (getD xs i 0)
+  flatMap-take-more f xs i h = rw (add-one, take-suc xs i 0) (flatMap-last f (take i xs) (getD xs i 0))
+
+  pub flatMap-one : (xs : List A) → flatMap (λ x. x ∷ []) xs ≡ xs
+  unfolding flatMap
+  flatMap-one [] = refl
+  flatMap-one (x ∷ xs) = ap (λ (r : List A). x ∷ r) (flatMap-one xs)
 
   -- ---- how many pass a test
 

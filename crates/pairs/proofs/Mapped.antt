@@ -90,7 +90,8 @@ module _ (block img : List ℕ) (bytes : Bytes img) (accepted : Accepted block i
     not-stored : answerNumber (store block img (pairKey a b) value .answer) ≢ 0 → AfterSet block img a b d after
     not-stored m =
         let e : store block img (pairKey a b) value .image ≡ img = demand1 block img .storeRefused (pairKey a b) value m in
-        subst (AfterSet block img a b d) (λ i. record { answer = set.Stored (store block img (pairKey a b) value .answer); image = sym e i }) (unchanged (set.Stored (store block img (pairKey a b) value .answer)) m)
+        let answer : SetAnswer = set.Stored (store block img (pairKey a b) value .answer) in
+        subst (AfterSet block img a b d) (λ i. record { answer = answer; image = sym e i }) (unchanged answer m)
 
   pub after-set : AfterSet block img a b d (setDelay block img a b d)
   after-set = by-pair (channelsFit? a b)
@@ -100,7 +101,9 @@ module _ (block img : List ℕ) (bytes : Bytes img) (accepted : Accepted block i
 
       by-number : ChannelsFit a b → Dec (d ≡ mostNegative) → AfterSet block img a b d (setDelay block img a b d)
       by-number f (yes e) = subst (AfterSet block img a b d) (set-most block img a b d f e first) (unchanged set.BadDelay (λ (q : 12 ≡ 0). omega arith))
-      by-number f (no n) = subst (AfterSet block img a b d) (set-fits block img a b d f n) (⊎-elim (stored f n) (not-stored f n) (same-or (answerNumber (store block img (pairKey a b) (delayRecord (inOrder a b d)) .answer)) 0))
+      by-number f (no n) =
+          let number : ℕ = answerNumber (store block img (pairKey a b) (delayRecord (inOrder a b d)) .answer) in
+          subst (AfterSet block img a b d) (set-fits block img a b d f n) (⊎-elim (stored f n) (not-stored f n) (same-or number 0))
 
       by-pair : Dec (ChannelsFit a b) → AfterSet block img a b d (setDelay block img a b d)
       by-pair (no n) = subst (AfterSet block img a b d) (set-misfit block img a b d n first) (unchanged set.BadPair (λ (q : 11 ≡ 0). omega arith))

@@ -63,9 +63,11 @@ pub record SignsKept (block img : List ℕ) (calls : List PairCall) : Type 0 whe
       → reply block img calls (length before + suc (length between)) .number ≡ 0
       → reply block img calls (length before) .delay +ℤ reply block img calls (length before + suc (length between)) .delay ≡ pos 0
   -- what is asked after a set of a 32-bit number answered 0, with no other set of the pair between, is what was set, with the sign of the order
-  pub sameOrder : (a b : ℕ) (d : ℤ) (before between after : List PairCall) → calls ≡ before ++ sets a b d ∷ between ++ asks a b ∷ after → SFits w32 d → NoSet a b between
+  pub sameOrder : (a b : ℕ) (d : ℤ) (before between after : List PairCall)
+      → calls ≡ before ++ sets a b d ∷ between ++ asks a b ∷ after → SFits w32 d → NoSet a b between
       → reply block img calls (length before) .number ≡ 0
       → reply block img calls (length before + suc (length between)) ≡ record { number = 0; delay = d }
-  pub otherOrder : (a b : ℕ) (d : ℤ) (before between after : List PairCall) → calls ≡ before ++ sets a b d ∷ between ++ asks b a ∷ after → SFits w32 d → NoSet a b between
+  pub otherOrder : (a b : ℕ) (d : ℤ) (before between after : List PairCall)
+      → calls ≡ before ++ sets a b d ∷ between ++ asks b a ∷ after → SFits w32 d → NoSet a b between
       → reply block img calls (length before) .number ≡ 0
       → reply block img calls (length before + suc (length between)) ≡ record { number = 0; delay = negℤ d }

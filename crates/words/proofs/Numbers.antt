@@ -1,12 +1,12 @@
 -- Laws of numbers in bytes, over every width, and what the loops that read and write one keep. Assumes nothing.
 use Prim.Native.Nat.{ℕ, zero, suc, _+_, _-_, _*_, _/_, _%_, _^_, _≤_, _<_}
-use mathlib.Core.List.{List, [], _∷_}
+use mathlib.Core.List.{List, [], _∷_, _++_}
 use mathlib.Core.Path.{_≡_, refl, ap, sym, _∙_}
 use mathlib.Core.Logic.{_⊎_, inl, inr, ⊎-elim, _≢_}
 use native.Mathlib.Omega.{arith}
 use native.Mathlib.Nat.{sub-self, pow-le-pow-right, sub-zero, add-zero, pow-suc}
 use native.Mathlib.Numerals.{add-one, towards-numerals}
-use lib.ListN.{length, getD, set, length-set}
+use lib.ListN.{length, getD, set, length-set, List·getD-append}
 use lib.Seq.{sets, length-sets, getD-set-same, set-getD}
 use Rattle.words.specs.Bytes.{Bytes, cut, Apart}
 use Rattle.words.specs.Numbers.{le, leBytes, putLe, be}
@@ -133,6 +133,12 @@ le-ends {l} {at} {n} {sum} {k} r z =
     let f : sum ≡ le l (at + k) (n - k) = r .is in
     let g : sum < 256 ^ (n - k) = r .fits in
     (rw (e, add-zero, sub-zero) at f, rw (e, sub-zero) at g)
+
+-- what stands after its bytes does not matter
+pub be-append : (l rest : List ℕ) (at n : ℕ) → at + n ≤ length l → be (l ++ rest) at n ≡ be l at n
+unfolding be
+be-append l rest at zero h = refl
+be-append l rest at (suc n) h = rw (be-append l rest at n (omega arith), List·getD-append l rest 0 (at + n) (omega arith))
 
 -- ---- the loop that reads big-endian: the number of the bytes before k
 

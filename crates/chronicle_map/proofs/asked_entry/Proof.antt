@@ -3,10 +3,6 @@ use Rattle.chronicle_map.proofs.Asking.{key-valid, entry-refused, entry
 use borrow.Author.Needs.{needs}
 use Rattle.chronicle_map.proofs.asked_entry.Statement.{statement}
 use Rattle.chronicle_map.proofs.asked_entry.Tie as tie
-use Rattle.chronicle_map.proofs.asked_entry.Reads as reads
-use Rattle.chronicle_map.proofs.asked_entry.Lts as lts
-use Rattle.chronicle_map.proofs.asked_key.Reads as asked-key-reads
-use Rattle.entries.proofs.chunks_for.Reads as chunks-for-reads
 
 asked-key-requires : tie.Need-asked-key-requires
 asked-key-requires c κs = search needs
@@ -18,19 +14,49 @@ enum-told : tie.Need-enum-told
 enum-told c = search needs
 
 returns : tie.Need-returns
-returns c = entry-refused (c .before .before .before .before .before .before .before .args .block .now) (c .before .before .before .before .before .before .before .args .img .now) (c .before .before .before .before .before .before .before .args .key .now) (c .before .before .before .before .before .before .before .args .value .now) (c .before .before .asked-key .result) (c .before .before .asked-key .ensures) (c .enum-told .given .0 .0) (c .enum-told .given .1)
+returns c =
+    let p = c .before .before in let asked-key = p .asked-key in
+    let start = p .before .before .before .before .before in
+    entry-refused (start .args .block .now) (start .args .img .now) (start .args .key .now) (start .args .value .now) (asked-key .result)
+    (asked-key .ensures) (c .enum-told .given .0 .0) (c .enum-told .given .1)
 
 returns-2 : tie.Need-returns-2
-returns-2 c = value-long (c .before .before .before .before .before .before .before .before .before .args .block .now) (c .before .before .before .before .before .before .before .before .before .args .img .now) (c .before .before .before .before .before .before .before .before .before .args .key .now) (c .before .before .before .before .before .before .before .before .before .args .value .now) (c .before .before .before .before .asked-key .result) (c .before .before .before .before .asked-key .ensures) (c .before .before .asked .given .0 .0) (c .before .before .asked .given .0 .1 .0) (c .before .before .asked .given .1) (c .if1 .taken)
+returns-2 c =
+    let p = c .before .before in let asked = p .asked in
+    let p = p .before .before in let asked-key = p .asked-key in
+    let start = p .before .before .before .before .before in
+    value-long (start .args .block .now) (start .args .img .now) (start .args .key .now) (start .args .value .now) (asked-key .result)
+    (asked-key .ensures) (asked .given .0 .0) (asked .given .0 .1 .0) (asked .given .1) (c .if1 .taken)
 
 chunks-for-requires : tie.Need-chunks-for-requires
-chunks-for-requires c κs = let l = entry-lengths (c .before .before .before .before .before .before .before .before .before .args .block .now) (c .before .before .before .before .before .before .before .before .before .args .img .now) (c .before .before .before .before .before .before .before .before .before .args .key .now) (c .before .before .before .before .before .before .before .before .before .args .value .now) (c .before .before .before .before .asked-key .result) (c .before .before .before .before .asked-key .ensures) (c .before .before .asked .given .0 .0) (c .before .before .asked .given .0 .1 .0) (c .before .before .asked .given .1) (omega (arith, c .if1 .left)) in (key-valid (c .before .before .before .before .before .before .before .before .before .args .block .now) (c .before .before .before .before .before .before .before .before .before .args .img .now) (c .before .before .before .before .before .before .before .before .before .args .key .now) (c .before .before .asked .given .0 .0) (c .before .before .asked .given .0 .1 .0) (c .before .before .before .before .asked-key .ensures) (c .before .before .asked .given .1), l .0, l .1)
+chunks-for-requires c κs =
+    let p = c .before .before in let asked = p .asked .given in
+    let p = p .before .before in let asked-key = p .asked-key in
+    let args = p .before .before .before .before .before .args in
+    let lengths = entry-lengths (args .block .now) (args .img .now) (args .key .now) (args .value .now) (asked-key .result) (asked-key .ensures)
+    (asked .0 .0) (asked .0 .1 .0) (asked .1) (omega (arith, c .if1 .left)) in
+    (key-valid (args .block .now) (args .img .now) (args .key .now) (asked .0 .0) (asked .0 .1 .0) (asked-key .ensures) (asked .1), lengths .0, lengths .1)
 
 returns-3 : tie.Need-returns-3
-returns-3 c = too-many (c .before .before .before .before .before .before .before .before .before .before .before .before .args .block .now) (c .before .before .before .before .before .before .before .before .before .before .before .before .args .img .now) (c .before .before .before .before .before .before .before .before .before .before .before .before .args .key .now) (c .before .before .before .before .before .before .before .before .before .before .before .before .args .value .now) (c .before .before .before .before .before .before .before .asked-key .result) (c .before .before .before .before .before .before .before .asked-key .ensures) (c .before .before .before .before .before .asked .given .0 .0) (c .before .before .before .before .before .asked .given .0 .1 .0) (c .before .before .before .before .before .asked .given .1) (c .before .before .chunks-for .result) (c .before .before .chunks-for .ensures) (c .if2 .taken)
+returns-3 c =
+    let p = c .before .before in let chunks-for = p .chunks-for in
+    let p = p .before .before .before in let asked = p .asked in
+    let p = p .before .before in let asked-key = p .asked-key in
+    let start = p .before .before .before .before .before in
+    too-many (start .args .block .now) (start .args .img .now) (start .args .key .now) (start .args .value .now) (asked-key .result)
+    (asked-key .ensures) (asked .given .0 .0) (asked .given .0 .1 .0) (asked .given .1) (chunks-for .result) (chunks-for .ensures)
+    (c .if2 .taken)
 
 returns-4 : tie.Need-returns-4
-returns-4 c = entry-right (c .before .before .before .before .before .before .before .before .before .before .before .before .args .block .now) (c .before .before .before .before .before .before .before .before .before .before .before .before .args .img .now) (c .before .before .before .before .before .before .before .before .before .before .before .before .args .key .now) (c .before .before .before .before .before .before .before .before .before .before .before .before .args .value .now) (c .before .before .before .before .before .before .before .asked-key .result) (c .before .before .before .before .before .before .before .asked-key .ensures) (c .before .before .before .before .before .asked .given .0 .0) (c .before .before .before .before .before .asked .given .0 .1 .0) (c .before .before .before .before .before .asked .given .1) (c .before .before .chunks-for .result) (c .before .before .chunks-for .ensures) (omega (arith, c .before .before .before .if1 .left)) (omega (arith, c .if2 .left))
+returns-4 c =
+    let p = c .before .before in let chunks-for = p .chunks-for in
+    let p = p .before in let if1 = p .if1 in
+    let p = p .before .before in let asked = p .asked in
+    let p = p .before .before in let asked-key = p .asked-key in
+    let start = p .before .before .before .before .before in
+    entry-right (start .args .block .now) (start .args .img .now) (start .args .key .now) (start .args .value .now) (asked-key .result)
+    (asked-key .ensures) (asked .given .0 .0) (asked .given .0 .1 .0) (asked .given .1) (chunks-for .result) (chunks-for .ensures)
+    (omega (arith, if1 .left)) (omega (arith, c .if2 .left))
 
 pub asked-entry-spec : {M : Type 1} → statement M
 asked-entry-spec =

@@ -3,9 +3,6 @@ use Rattle.chronicle_map.proofs.Asking.{key-refused, key-short, key-lon
 use borrow.Author.Needs.{needs}
 use Rattle.chronicle_map.proofs.asked_key.Statement.{statement}
 use Rattle.chronicle_map.proofs.asked_key.Tie as tie
-use Rattle.chronicle_map.proofs.asked_key.Reads as reads
-use Rattle.chronicle_map.proofs.asked_key.Lts as lts
-use Rattle.image.proofs.examine.Reads as examine-reads
 
 examine-requires : tie.Need-examine-requires
 examine-requires c κs = search needs
@@ -17,16 +14,36 @@ enum-told : tie.Need-enum-told
 enum-told c = search needs
 
 returns : tie.Need-returns
-returns c = key-refused (c .before .before .before .before .before .before .args .block .now) (c .before .before .before .before .before .before .args .img .now) (c .before .before .before .before .before .before .args .key .now) (c .before .before .examine .result) (c .before .before .examine .ensures) (c .enum-told .given .0 .0) (c .enum-told .given .1)
+returns c =
+    let p = c .before .before in let examine = p .examine in
+    let start = p .before .before .before .before in
+    key-refused (start .args .block .now) (start .args .img .now) (start .args .key .now) (examine .result) (examine .ensures)
+    (c .enum-told .given .0 .0) (c .enum-told .given .1)
 
 returns-2 : tie.Need-returns-2
-returns-2 c = key-short (c .before .before .before .before .before .before .before .before .args .block .now) (c .before .before .before .before .before .before .before .before .args .img .now) (c .before .before .before .before .before .before .before .before .args .key .now) (c .before .before .before .before .examine .result) (c .before .before .before .before .examine .ensures) (c .before .before .examined .given .0 .0) (c .before .before .examined .given .0 .1 .0) (c .before .before .examined .given .1) (c .if1 .taken)
+returns-2 c =
+    let p = c .before .before in let examined = p .examined in
+    let p = p .before .before in let examine = p .examine in
+    let start = p .before .before .before .before in
+    key-short (start .args .block .now) (start .args .img .now) (start .args .key .now) (examine .result) (examine .ensures)
+    (examined .given .0 .0) (examined .given .0 .1 .0) (examined .given .1) (c .if1 .taken)
 
 returns-3 : tie.Need-returns-3
-returns-3 c = key-long (c .before .before .before .before .before .before .before .before .before .args .block .now) (c .before .before .before .before .before .before .before .before .before .args .img .now) (c .before .before .before .before .before .before .before .before .before .args .key .now) (c .before .before .before .before .before .examine .result) (c .before .before .before .before .before .examine .ensures) (c .before .before .before .examined .given .0 .0) (c .before .before .before .examined .given .0 .1 .0) (c .before .before .before .examined .given .1) (c .if2 .taken)
+returns-3 c =
+    let p = c .before .before .before in let examined = p .examined in
+    let p = p .before .before in let examine = p .examine in
+    let start = p .before .before .before .before in
+    key-long (start .args .block .now) (start .args .img .now) (start .args .key .now) (examine .result) (examine .ensures)
+    (examined .given .0 .0) (examined .given .0 .1 .0) (examined .given .1) (c .if2 .taken)
 
 returns-4 : tie.Need-returns-4
-returns-4 c = key-right (c .before .before .before .before .before .before .before .before .before .args .block .now) (c .before .before .before .before .before .before .before .before .before .args .img .now) (c .before .before .before .before .before .before .before .before .before .args .key .now) (c .before .before .before .before .before .examine .result) (c .before .before .before .before .before .examine .ensures) (c .before .before .before .examined .given .0 .0) (c .before .before .before .examined .given .0 .1 .0) (c .before .before .before .examined .given .1) (omega (arith, c .before .if1 .left)) (omega (arith, c .if2 .left))
+returns-4 c =
+    let p = c .before .before .before in let examined = p .examined in
+    let p = p .before .before in let examine = p .examine in
+    let start = p .before .before .before .before in
+    key-right (start .args .block .now) (start .args .img .now) (start .args .key .now) (examine .result) (examine .ensures)
+    (examined .given .0 .0) (examined .given .0 .1 .0) (examined .given .1) (omega (arith, c .before .if1 .left))
+    (omega (arith, c .if2 .left))
 
 pub asked-key-spec : {M : Type 1} → statement M
 asked-key-spec =

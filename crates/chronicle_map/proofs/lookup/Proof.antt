@@ -4,10 +4,6 @@ use Rattle.chronicle_map.proofs.Calling.{lookup-refused, lookup-ready}
 use borrow.Author.Needs.{needs}
 use Rattle.chronicle_map.proofs.lookup.Statement.{statement}
 use Rattle.chronicle_map.proofs.lookup.Tie as tie
-use Rattle.chronicle_map.proofs.lookup.Reads as reads
-use Rattle.chronicle_map.proofs.lookup.Lts as lts
-use Rattle.chronicle_map.proofs.asked_key.Reads as asked-key-reads
-use Rattle.chronicle_map.proofs.look_up.Reads as look-up-reads
 
 asked-key-requires : tie.Need-asked-key-requires
 asked-key-requires c κs = search needs
@@ -19,13 +15,29 @@ enum-known-z : tie.Need-enum-known-z
 enum-known-z c = search needs
 
 look-up-requires : tie.Need-look-up-requires
-look-up-requires c κs = key-sound (c .before .before .before .before .before .before .before .args .block .now) (c .before .before .before .before .before .before .before .args .img .now) (c .before .before .before .before .before .before .before .args .key .now) (c .before .z .given .0 .0) (c .before .z .given .0 .1 .0) (c .before .before .before .asked-key .ensures) (c .before .z .given .1) (λ i. omega (arith, c .before .before .before .before .before .shared-slice-known2 .given i))
+look-up-requires c κs =
+    let p = c .before in let z = p .z in
+    let p = p .before .before in let asked-key = p .asked-key in
+    let p = p .before .before in let shared-slice-known2 = p .shared-slice-known2 in
+    let start = p .before .before in
+    key-sound (start .args .block .now) (start .args .img .now) (start .args .key .now) (z .given .0 .0) (z .given .0 .1 .0)
+    (asked-key .ensures) (z .given .1) (λ i. omega (arith, shared-slice-known2 .given i))
 
 returns : tie.Need-returns
-returns c = lookup-refused (c .before .before .before .before .before .before .before .args .block .now) (c .before .before .before .before .before .before .before .args .img .now) (c .before .before .before .before .before .before .before .args .key .now) (c .before .before .before .asked-key .ensures) (c .before .stage .given .0 .0) (c .before .stage .given .1)
+returns c =
+    let p = c .before in let stage = p .stage in
+    let p = p .before .before in let asked-key = p .asked-key in
+    let start = p .before .before .before .before in
+    lookup-refused (start .args .block .now) (start .args .img .now) (start .args .key .now) (asked-key .ensures) (stage .given .0 .0)
+    (stage .given .1)
 
 returns-2 : tie.Need-returns-2
-returns-2 c = lookup-ready (c .before .before .before .before .before .before .before .before .args .block .now) (c .before .before .before .before .before .before .before .before .args .img .now) (c .before .before .before .before .before .before .before .before .args .key .now) (c .before .before .before .before .asked-key .ensures) (c .before .before .z .given .0 .0) (c .before .before .z .given .0 .1 .0) (c .before .before .z .given .1) (c .look-up .ensures)
+returns-2 c =
+    let p = c .before .before in let z = p .z in
+    let p = p .before .before in let asked-key = p .asked-key in
+    let start = p .before .before .before .before in
+    lookup-ready (start .args .block .now) (start .args .img .now) (start .args .key .now) (asked-key .ensures) (z .given .0 .0)
+    (z .given .0 .1 .0) (z .given .1) (c .look-up .ensures)
 
 pub lookup-spec : {M : Type 1} → statement M
 lookup-spec =

@@ -4,10 +4,6 @@ use Rattle.chronicle_map.proofs.Calling.{remove-refused, remove-ready}
 use borrow.Author.Needs.{needs}
 use Rattle.chronicle_map.proofs.remove.Statement.{statement}
 use Rattle.chronicle_map.proofs.remove.Tie as tie
-use Rattle.chronicle_map.proofs.remove.Reads as reads
-use Rattle.chronicle_map.proofs.remove.Lts as lts
-use Rattle.chronicle_map.proofs.asked_key.Reads as asked-key-reads
-use Rattle.chronicle_map.proofs.take.Reads as take-reads
 
 asked-key-requires : tie.Need-asked-key-requires
 asked-key-requires c κs = search needs
@@ -19,19 +15,35 @@ enum-known-z : tie.Need-enum-known-z
 enum-known-z c = search needs
 
 take-requires : tie.Need-take-requires
-take-requires c κs = key-sound (c .before .before .before .before .before .before .before .before .before .args .block .now) (c .before .before .before .before .before .before .before .before .before .args .img .now) (c .before .before .before .before .before .before .before .before .before .args .key .now) (c .before .before .z .given .0 .0) (c .before .before .z .given .0 .1 .0) (c .before .before .before .before .asked-key .ensures) (c .before .before .z .given .1) (λ i. omega (arith, c .before .before .before .before .before .before .before .slice-known .given i))
+take-requires c κs =
+    let p = c .before .before in let z = p .z in
+    let p = p .before .before in let asked-key = p .asked-key in
+    let p = p .before .before .before in let slice-known = p .slice-known in
+    let start = p .before .before in
+    key-sound (start .args .block .now) (start .args .img .now) (start .args .key .now) (z .given .0 .0) (z .given .0 .1 .0)
+    (asked-key .ensures) (z .given .1) (λ i. omega (arith, slice-known .given i))
 
 same-length : tie.Need-same-length
 same-length c = search needs
 
 returns : tie.Need-returns
-returns c = remove-refused (c .before .before .before .before .before .before .before .before .args .block .now) (c .before .before .before .before .before .before .before .before .args .img .now) (c .before .before .before .before .before .before .before .before .args .key .now) (c .before .before .before .asked-key .ensures) (c .before .stage .given .0 .0) (c .before .stage .given .1)
+returns c =
+    let p = c .before in let stage = p .stage in
+    let p = p .before .before in let asked-key = p .asked-key in
+    let start = p .before .before .before .before .before in
+    remove-refused (start .args .block .now) (start .args .img .now) (start .args .key .now) (asked-key .ensures) (stage .given .0 .0)
+    (stage .given .1)
 
 same-length-2 : tie.Need-same-length-2
 same-length-2 c = search needs
 
 returns-2 : tie.Need-returns-2
-returns-2 c = remove-ready (c .before .before .before .before .before .before .before .before .before .before .before .before .args .block .now) (c .before .before .before .before .before .before .before .before .before .before .before .before .args .img .now) (c .before .before .before .before .before .before .before .before .before .before .before .before .args .key .now) (c .before .before .before .before .before .before .before .asked-key .ensures) (c .before .before .before .before .before .z .given .0 .0) (c .before .before .before .before .before .z .given .0 .1 .0) (c .before .before .before .before .before .z .given .1) (c .before .before .take .ensures)
+returns-2 c =
+    let p = c .before .before .before .before .before in let z = p .z in
+    let p = p .before .before in let asked-key = p .asked-key in
+    let start = p .before .before .before .before .before in
+    remove-ready (start .args .block .now) (start .args .img .now) (start .args .key .now) (asked-key .ensures) (z .given .0 .0)
+    (z .given .0 .1 .0) (z .given .1) (c .before .before .take .ensures)
 
 pub remove-spec : {M : Type 1} → statement M
 remove-spec =

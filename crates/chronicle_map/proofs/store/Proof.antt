@@ -4,10 +4,6 @@ use Rattle.chronicle_map.proofs.Calling.{store-refused, store-ready}
 use borrow.Author.Needs.{needs}
 use Rattle.chronicle_map.proofs.store.Statement.{statement}
 use Rattle.chronicle_map.proofs.store.Tie as tie
-use Rattle.chronicle_map.proofs.store.Reads as reads
-use Rattle.chronicle_map.proofs.store.Lts as lts
-use Rattle.chronicle_map.proofs.asked_entry.Reads as asked-entry-reads
-use Rattle.chronicle_map.proofs.give.Reads as give-reads
 
 asked-entry-requires : tie.Need-asked-entry-requires
 asked-entry-requires c κs = search needs
@@ -19,19 +15,38 @@ enum-known-z : tie.Need-enum-known-z
 enum-known-z c = search needs
 
 give-requires : tie.Need-give-requires
-give-requires c κs = let r = entry-ready (c .before .before .before .before .before .before .before .before .before .before .args .block .now) (c .before .before .before .before .before .before .before .before .before .before .args .img .now) (c .before .before .before .before .before .before .before .before .before .before .args .key .now) (c .before .before .before .before .before .before .before .before .before .before .args .value .now) (c .before .before .z .given .0 .0) (c .before .before .z .given .0 .1 .0) (c .before .before .before .before .asked-entry .ensures) (c .before .before .z .given .1) in (entry-sound (c .before .before .before .before .before .before .before .before .before .before .args .block .now) (c .before .before .before .before .before .before .before .before .before .before .args .img .now) (c .before .before .before .before .before .before .before .before .before .before .args .key .now) (c .before .before .before .before .before .before .before .before .before .before .args .value .now) (c .before .before .z .given .0 .0) (c .before .before .z .given .0 .1 .0) (c .before .before .before .before .asked-entry .ensures) (c .before .before .z .given .1) (λ i. omega (arith, c .before .before .before .before .before .before .before .before .slice-known .given i)), r .keyFits, r .valueFits)
+give-requires c κs =
+    let p = c .before .before in let ready = p .z .given in
+    let p = p .before .before in let asked-entry = p .asked-entry in
+    let p = p .before .before .before .before in let bytes = p .slice-known .given in
+    let args = p .before .before .args in
+    let fits = entry-ready (args .block .now) (args .img .now) (args .key .now) (args .value .now) (ready .0 .0) (ready .0 .1 .0) (asked-entry .ensures)
+    (ready .1) in
+    let sound = entry-sound (args .block .now) (args .img .now) (args .key .now) (args .value .now) (ready .0 .0) (ready .0 .1 .0) (asked-entry .ensures)
+    (ready .1) (λ i. omega (arith, bytes i)) in
+    (sound, fits .keyFits, fits .valueFits)
 
 same-length : tie.Need-same-length
 same-length c = search needs
 
 returns : tie.Need-returns
-returns c = store-refused (c .before .before .before .before .before .before .before .before .before .args .block .now) (c .before .before .before .before .before .before .before .before .before .args .img .now) (c .before .before .before .before .before .before .before .before .before .args .key .now) (c .before .before .before .before .before .before .before .before .before .args .value .now) (c .before .before .before .asked-entry .ensures) (c .before .stage .given .0 .0) (c .before .stage .given .1)
+returns c =
+    let p = c .before in let stage = p .stage in
+    let p = p .before .before in let asked-entry = p .asked-entry in
+    let start = p .before .before .before .before .before .before in
+    store-refused (start .args .block .now) (start .args .img .now) (start .args .key .now) (start .args .value .now) (asked-entry .ensures)
+    (stage .given .0 .0) (stage .given .1)
 
 same-length-2 : tie.Need-same-length-2
 same-length-2 c = search needs
 
 returns-2 : tie.Need-returns-2
-returns-2 c = store-ready (c .before .before .before .before .before .before .before .before .before .before .before .before .before .args .block .now) (c .before .before .before .before .before .before .before .before .before .before .before .before .before .args .img .now) (c .before .before .before .before .before .before .before .before .before .before .before .before .before .args .key .now) (c .before .before .before .before .before .before .before .before .before .before .before .before .before .args .value .now) (c .before .before .before .before .before .before .before .asked-entry .ensures) (c .before .before .before .before .before .z .given .0 .0) (c .before .before .before .before .before .z .given .0 .1 .0) (c .before .before .before .before .before .z .given .1) (c .before .before .give .ensures)
+returns-2 c =
+    let p = c .before .before .before .before .before in let z = p .z in
+    let p = p .before .before in let asked-entry = p .asked-entry in
+    let start = p .before .before .before .before .before .before in
+    store-ready (start .args .block .now) (start .args .img .now) (start .args .key .now) (start .args .value .now) (asked-entry .ensures)
+    (z .given .0 .0) (z .given .0 .1 .0) (z .given .1) (c .before .before .give .ensures)
 
 pub store-spec : {M : Type 1} → statement M
 store-spec =

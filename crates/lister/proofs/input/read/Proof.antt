@@ -5,7 +5,7 @@ use lib.ListN.{length}
 use lib.Seq.{length-take-le}
 use borrow.Author.Needs.{needs}
 use Rattle.lister.specs.Input.{longest}
-use Rattle.lister.proofs.Reading.{more-asked, answers, turns, reads-on}
+use Rattle.lister.proofs.Reading.{more-asked, has-read, turns, reads-on}
 use Rattle.lister.proofs.input.read.Statement.{statement}
 use Rattle.lister.proofs.input.read.Tie as tie
 
@@ -36,7 +36,7 @@ same-length c = search needs
 returns : tie.Need-returns Inv-loop μ-loop
 returns c =
     let read = c .before .before .before in
-    answers _ _ _ (read .before .before .loop .inv) (read .reading .ensures) (c .before .n .given .1) tt
+    has-read _ _ _ (read .before .before .loop .inv) (read .reading .ensures) (c .before .n .given .1) tt
 
 enum-known-stage : tie.Need-enum-known-stage Inv-loop μ-loop
 enum-known-stage c = search needs
@@ -47,7 +47,7 @@ same-length-2 c = search needs
 returns-2 : tie.Need-returns-2 Inv-loop μ-loop
 returns-2 c =
     let read = c .before .before .before in
-    answers _ _ _ (read .before .before .loop .inv) (read .reading .ensures) (c .before .stage .given .1) tt
+    has-read _ _ _ (read .before .before .loop .inv) (read .reading .ensures) (c .before .stage .given .1) tt
 
 enum-known-n-2 : tie.Need-enum-known-n-2 Inv-loop μ-loop
 enum-known-n-2 c = search needs

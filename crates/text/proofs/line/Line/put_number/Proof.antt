@@ -2,7 +2,7 @@ use mathlib.Core.Path.{_∙_}
 use native.Mathlib.Omega.{arith}
 use borrow.Author.Needs.{needs}
 use Rattle.text.proofs.Decimal.{fewest-short, decimal-fewest}
-use Rattle.text.proofs.Adding.{said}
+use Rattle.text.proofs.Adding.{added-as}
 use Rattle.text.proofs.line.Line.put_number.Statement.{statement}
 use Rattle.text.proofs.line.Line.put_number.Tie as tie
 
@@ -24,7 +24,7 @@ returns c =
     let d = c .before .before .decimal .ensures in
     let a = c .put-word .ensures in
     record {
-      added = said (d .1 .1 ∙ decimal-fewest _ _ (d .1 .0)) a;
+      added = added-as (d .1 .1 ∙ decimal-fewest _ _ (d .1 .0)) a;
       within = omega (arith, a .len, fewest-short _ _ (start .fits .n .fits) (d .1 .0));
     }
 
