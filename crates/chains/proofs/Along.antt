@@ -1,18 +1,14 @@
--- A loop along a chain that asks the same of each tier. Assumes nothing.
-use Prim.Native.Nat.{ℕ, zero, suc, _+_, _-_, _≤_, _<_}
-use mathlib.Core.List.{List, [], _∷_, List·Memᴰ, List·Memᴰ·head, List·Memᴰ·tail}
-use mathlib.Core.Path.{_≡_, refl, sym, _∙_}
-use mathlib.Core.Logic.{_≢_, ⊎-elim}
+-- A loop along a chain that asks the same of each tier.
+use Prim.Native.Nat.{ℕ, suc, _+_, _-_, _≤_, _<_}
+use mathlib.Core.List.{List, _∷_, List·Memᴰ, List·Memᴰ·head, List·Memᴰ·tail}
+use mathlib.Core.Path.{_≡_, refl}
+use mathlib.Core.Logic.{_≢_}
 use native.Mathlib.Omega.{arith}
-use lib.ListN.{length, getD}
-use Rattle.lists.specs.Cases.{same-or}
-use Rattle.lists.specs.Quantify.{Below, Every, every-cons, every-none}
-use Rattle.settings.specs.declared.Settings.{Settings}
+use Rattle.lists.specs.Quantify.{Every, every-cons}
 use Rattle.layout.specs.declared.Shape.{Shape}
 use Rattle.layout.specs.Tiers.{tiers, IsTier, IsExtra}
-use Rattle.chains.specs.Chains.{follow, chain, freeChain, nextOf, ChainFits, FreeChainFits, ChainsFit}
-use Rattle.chains.specs.Walk.{extrasOf}
-use Rattle.chains.proofs.Follow.{follow-none, follow-more}
+use Rattle.chains.specs.Chains.{follow, chain, freeChain, nextOf, ChainFits, FreeChainFits}
+use Rattle.chains.proofs.Follow.{follow-more}
 use Rattle.chains.proofs.Segments.{segments-le, chain-cons, extras-of}
 
 -- ---- every tier of a chain is one
@@ -38,29 +34,17 @@ module _ (z : Shape) (img : List ℕ) (P : ℕ → Type 0) (n start : ℕ) where
     pub whole : Every (follow z img (n - k) t) P → Every (follow z img n start) P
 
   pub along-starts : Every (follow z img n start) (IsTier z) → Along start 0
-  along-starts is = let e : n - 0 ≡ n = omega arith in record { low = omega arith; tiersOf = rw e is; within = rw e (λ u m. m); part = rw e (λ f. f); whole = rw e (λ f. f) }
+  along-starts is =
+      let e : n - 0 ≡ n = omega arith in
+      record { low = omega arith; tiersOf = rw e is; within = rw e (λ u m. m); part = rw e (λ f. f); whole = rw e (λ f. f) }
 
   module _ {t k : ℕ} (w : Along t k) where
-    -- the end, and the last of n tiers
-    pub along-ends : t ≡ 0 → Every (follow z img n start) P
-    along-ends e = w .whole (rw (e, follow-none z img (n - k)) (every-none P))
-
-    pub along-out : n ≤ k → Every (follow z img n start) P
-    unfolding follow
-    along-out h = let e : n - k ≡ 0 = omega arith in w .whole (rw e (every-none P))
-
     module _ (h : k < n) (ne : t ≢ 0) where
       here : follow z img (n - k) t ≡ t ∷ follow z img (n - (k + 1)) (nextOf z img t)
       here = let e : n - k ≡ suc (n - (k + 1)) = omega arith in rw e (follow-more z img (n - (k + 1)) t ne)
 
       pub along-tier : IsTier z t
       along-tier = rw here at (w .tiersOf) t (List·Memᴰ·head refl)
-
-      pub along-member : List·Memᴰ t (follow z img n start)
-      along-member = rw here at (w .within) t (List·Memᴰ·head refl)
-
-      pub along-broken : (P t → ⊥) → Every (follow z img n start) P → ⊥
-      along-broken b f = b (rw here at (w .part f) t (List·Memᴰ·head refl))
 
       pub along-turns : P t → (u : ℕ) → u ≡ nextOf z img t → Along u (k + 1)
       along-turns p u e =
@@ -85,28 +69,12 @@ module _ (z : Shape) (img : List ℕ) (P : ℕ → Type 0) (s : ℕ) where
   chain-starts most t em et is = let e : t ≡ suc s = omega arith in rw e (record { along = along-starts z img P (tiers z) (suc s) is; most-is = em })
 
   module _ {most t k : ℕ} (w : AlongChain most t k) where
-    pub chain-ends : t ≡ 0 → Every (chain z img s) P
-    unfolding chain
-    chain-ends e = along-ends z img P (tiers z) (suc s) (w .along) e
-
-    pub chain-out : most ≤ k → Every (chain z img s) P
-    unfolding chain
-    chain-out h = along-out z img P (tiers z) (suc s) (w .along) (omega (arith, w .most-is))
-
     module _ (h : k < most) (ne : t ≢ 0) where
       low : k < tiers z
       low = omega (arith, w .most-is)
 
       pub chain-tier : IsTier z t
       chain-tier = along-tier z img P (tiers z) (suc s) (w .along) low ne
-
-      pub chain-member : List·Memᴰ t (chain z img s)
-      unfolding chain
-      chain-member = along-member z img P (tiers z) (suc s) (w .along) low ne
-
-      pub chain-wrong : (P t → ⊥) → Every (chain z img s) P → ⊥
-      unfolding chain
-      chain-wrong b f = along-broken z img P (tiers z) (suc s) (w .along) low ne b f
 
       pub chain-turns : P t → (u : ℕ) → u ≡ nextOf z img t → AlongChain most u (k + 1)
       chain-turns p u e = record { along = along-turns z img P (tiers z) (suc s) (w .along) low ne p u e; most-is = w .most-is }

@@ -1,8 +1,8 @@
--- The answer, from the walks along all the chains. Assumes nothing.
+-- The answer, from the walks along all the chains.
 use Prim.Native.Nat.{ℕ, zero, suc, _+_, _-_, _*_, _^_, _≤_, _<_}
-use mathlib.Core.List.{List, [], _∷_, _++_, flatMap, List·Memᴰ}
+use mathlib.Core.List.{List, _++_, flatMap}
 use mathlib.Core.Path.{_≡_, refl, ap, ap₂, sym, _∙_, subst, subst₂}
-use mathlib.Core.Logic.{_⊎_, ⊎-elim, _≢_}
+use mathlib.Core.Logic.{⊎-elim}
 use native.Mathlib.Omega.{arith}
 use native.Mathlib.Numerals.{add-one}
 use lib.Dec.{eqb}
@@ -13,9 +13,8 @@ use Rattle.lists.specs.Quantify.{Below, Every}
 use Rattle.lists.proofs.Lists.{flatMap-below, in-span, span-in}
 use Rattle.settings.specs.declared.Settings.{Settings}
 use Rattle.layout.specs.declared.Shape.{Shape}
-use Rattle.layout.specs.Tiers.{tiers, IsExtra}
+use Rattle.layout.specs.Tiers.{tiers}
 use Rattle.layout.specs.Places.{get, global, usedTiers}
-use Rattle.chains.specs.declared.Chains.{Chains}
 use Rattle.chains.specs.declared.Chains.the-variants.{Fit, Broken}
 use Rattle.chains.specs.declared.Walked.{Walked}
 use Rattle.chains.specs.declared.Walked.the-variants.{Ended, Lost}
@@ -99,7 +98,8 @@ module _ (z : Shape) (img : List ℕ) where
     unfolding freeChain
     times-met t h =
         let e : times₂ ≡ tally times₀ (chainedExtra z img ++ freeChain z img) =
-        w .1 .1 ∙ ap (λ (r : List ℕ). tally r (freeChain z img)) (a .1 .1 ∙ ap (tally times₀) (before-all z img)) ∙ sym (tally-append times₀ (chainedExtra z img) (freeChain z img)) in
+        w .1 .1 ∙ ap (λ (r : List ℕ). tally r (freeChain z img)) (a .1 .1 ∙ ap (tally times₀) (before-all z img))
+        ∙ sym (tally-append times₀ (chainedExtra z img) (freeChain z img)) in
         omega (arith, ap (λ (r : List ℕ). getD r t 0) e, getD-tally times₀ (chainedExtra z img ++ freeChain z img) t (omega arith), zeros t)
 
     -- each extra tier was met once
@@ -114,7 +114,9 @@ module _ (z : Shape) (img : List ℕ) where
     pub not-once : tiers z ≤ 1024 → (Below (bulks * bulkTiers) (λ j. getD times₂ (suc segments + j) 0 ≡ 1) → ⊥) → Every (extraTiers z img) (Once z img) → ⊥
     unfolding tiers
     not-once c n o =
-        n (λ j h. times-met (suc segments + j) (omega arith) ∙ o (suc segments + j) (in-span (suc segments) (bulks * bulkTiers) (suc segments + j) (omega arith) (omega arith)))
+        n (λ j h.
+        times-met (suc segments + j) (omega arith)
+        ∙ o (suc segments + j) (in-span (suc segments) (bulks * bulkTiers) (suc segments + j) (omega arith) (omega arith)))
 
     pub answer-fits : Every (extraTiers z img) (Once z img) → get z img (global usedTiers) ≡ k → chainsOf z img ≡ Fit (segments + k) f
     unfolding freeChain
@@ -141,7 +143,9 @@ module _ (z : Shape) (img times₀ times₁ : List ℕ) (r₁ : Walked) (zeros :
   open Settings settings using (segments, bulkTiers)
 
   pub first-lost : r₁ ≡ Lost → chainsOf z img ≡ Broken
-  first-lost e = let n : Below segments (ChainFits z img) → ⊥ = subst (AllWalk z img segments times₀ times₁) e a in chains-broken z img (λ f. n (f .segmentsFit))
+  first-lost e =
+      let n : Below segments (ChainFits z img) → ⊥ = subst (AllWalk z img segments times₀ times₁) e a in
+      chains-broken z img (λ f. n (f .segmentsFit))
 
   module _ (k : ℕ) (e₁ : r₁ ≡ Ended k) where
     ended : AllWalk z img segments times₀ times₁ (Ended k)

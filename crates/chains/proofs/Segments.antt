@@ -1,14 +1,14 @@
--- A segment's chain, and the chains of the segments one after the other. Assumes nothing.
+-- A segment's chain, and the chains of the segments one after the other.
 use Prim.Native.Nat.{ℕ, zero, suc, _+_, _-_, _*_, _^_, _≤_, _<_}
-use mathlib.Core.List.{List, [], _∷_, _++_, flatMap, List·Memᴰ}
+use mathlib.Core.List.{List, [], _∷_, _++_, flatMap}
 use mathlib.Core.Path.{_≡_, refl, ap, sym, _∙_, subst, subst₂}
-use mathlib.Core.Logic.{_⊎_, ⊎-elim, _≢_}
+use mathlib.Core.Logic.{⊎-elim, _≢_}
 use native.Mathlib.Omega.{arith}
 use native.Mathlib.Numerals.{add-one}
 use lib.Dec.{eqb}
-use lib.ListN.{length, getD, drop, replicate, length-append, length-replicate, getD-replicate, List·getD-eq-default}
-use Rattle.lists.specs.Cases.{same-or, lt-or}
-use Rattle.lists.specs.Lists.{below, span, howMany}
+use lib.ListN.{length, getD, drop, length-append, List·getD-eq-default}
+use Rattle.lists.specs.Cases.{lt-or}
+use Rattle.lists.specs.Lists.{span}
 use Rattle.lists.specs.Quantify.{Below, Every, below-suc}
 use Rattle.lists.proofs.Lists.{flatMap-below, howMany-le, member}
 use Rattle.settings.specs.declared.Settings.{Settings}
@@ -16,9 +16,9 @@ use Rattle.layout.specs.declared.Shape.{Shape}
 use Rattle.layout.specs.Tiers.{tiers, IsTier, IsExtra}
 use Rattle.chains.specs.declared.Walked.{Walked}
 use Rattle.chains.specs.declared.Walked.the-variants.{Ended, Lost}
-use Rattle.chains.specs.Chains.{follow, endOf, nextOf, chain, chained, chainedExtra, Stands, ChainFits}
+use Rattle.chains.specs.Chains.{follow, endOf, nextOf, chain, chainedExtra, Stands, ChainFits}
 use Rattle.chains.specs.Walk.{tally, Extras, Walks, extrasOf, extrasBefore, ChainWalks, AllWalk, MetAtMost}
-use Rattle.chains.proofs.Follow.{follow-more, end-more, length-follow, follow-next, follow-first}
+use Rattle.chains.proofs.Follow.{follow-more, end-more, length-follow, follow-next}
 use Rattle.chains.proofs.Tally.{tally-append, length-tally, getD-tally}
 
 module _ (z : Shape) (img : List ℕ) where
@@ -149,7 +149,8 @@ module _ (z : Shape) (img : List ℕ) where
       (omega (arith, before-short s (omega arith) c, extras-short s (omega arith)))
 
   -- a tier is met at most as often as there are tiers in the chains
-  pub met-before : (times : List ℕ) → MetAtMost times 0 → (s : ℕ) → s ≤ segments → segments ≤ 256 → tiers z ≤ 1024 → MetAtMost (tally times (extrasBefore z img s)) (2 ^ 32)
+  pub met-before : (times : List ℕ) → MetAtMost times 0 → (s : ℕ) → s ≤ segments → segments ≤ 256 → tiers z ≤ 1024
+      → MetAtMost (tally times (extrasBefore z img s)) (2 ^ 32)
   met-before times zeros s h few c u =
       ⊎-elim
       (λ (l : u < length times).

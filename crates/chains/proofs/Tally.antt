@@ -1,7 +1,7 @@
--- Laws of counting tiers. Assumes nothing.
-use Prim.Native.Nat.{ℕ, zero, suc, _+_, _≤_, _<_}
+-- Laws of counting tiers.
+use Prim.Native.Nat.{ℕ, _+_, _<_}
 use mathlib.Core.List.{List, [], _∷_, _++_}
-use mathlib.Core.Path.{_≡_, refl, ap, sym, _∙_}
+use mathlib.Core.Path.{_≡_, refl, _∙_}
 use mathlib.Core.Logic.{⊎-elim, _≢_}
 use native.Mathlib.Omega.{arith}
 use lib.Dec.{eqb}
@@ -27,6 +27,10 @@ unfolding tally those
 getD-tally times [] t h = omega arith
 getD-tally times (x ∷ ts) t h =
     ⊎-elim
-    (λ (e : t ≡ x). getD-tally (set times x (getD times x 0 + 1)) ts t (rw length-set h) ∙ rw (howMany-same t x ts e) (rw (← e, getD-set-same times t (getD times t 0 + 1) 0 h) (omega arith)))
-    (λ (e : t ≢ x). getD-tally (set times x (getD times x 0 + 1)) ts t (rw length-set h) ∙ rw (getD-set-other times x t (getD times x 0 + 1) 0 e, howMany-other t x ts e))
+    (λ (e : t ≡ x).
+    getD-tally (set times x (getD times x 0 + 1)) ts t (rw length-set h)
+    ∙ rw (howMany-same t x ts e) (rw (← e, getD-set-same times t (getD times t 0 + 1) 0 h) (omega arith)))
+    (λ (e : t ≢ x).
+    getD-tally (set times x (getD times x 0 + 1)) ts t (rw length-set h)
+    ∙ rw (getD-set-other times x t (getD times x 0 + 1) 0 e, howMany-other t x ts e))
     (same-or t x)

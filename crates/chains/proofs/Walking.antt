@@ -1,8 +1,8 @@
--- What the loop of `walk` keeps: what is left to walk gives the same as the whole. Assumes nothing.
-use Prim.Native.Nat.{ℕ, zero, suc, _+_, _-_, _^_, _≤_, _<_}
-use mathlib.Core.List.{List, [], _∷_, List·Memᴰ, List·Memᴰ·head, List·Memᴰ·tail}
+-- What the loop of `walk` keeps: what is left to walk gives the same as the whole.
+use Prim.Native.Nat.{ℕ, suc, _+_, _-_, _^_, _≤_, _<_}
+use mathlib.Core.List.{List, [], _∷_, List·Memᴰ·head, List·Memᴰ·tail}
 use mathlib.Core.Path.{_≡_, refl, ap, sym, _∙_}
-use mathlib.Core.Logic.{_⊎_, ⊎-elim, _≢_}
+use mathlib.Core.Logic.{⊎-elim, _≢_}
 use native.Mathlib.Omega.{arith}
 use lib.ListN.{length, getD, set, length-set}
 use lib.Seq.{getD-set-same, getD-set-other, set-out}
@@ -10,8 +10,7 @@ use Rattle.lists.specs.Cases.{same-or, lt-or}
 use Rattle.lists.specs.Quantify.{Every, every-cons, every-none}
 use Rattle.layout.specs.declared.Shape.{Shape}
 use Rattle.layout.specs.Tiers.{IsExtra}
-use Rattle.chains.specs.declared.Walked.{Walked}
-use Rattle.chains.specs.declared.Walked.the-variants.{Ended, Lost}
+use Rattle.chains.specs.declared.Walked.the-variants.{Ended}
 use Rattle.chains.specs.Chains.{follow, endOf, nextOf}
 use Rattle.chains.specs.Walk.{tally, Extras, Walks}
 use Rattle.chains.proofs.Follow.{follow-none, follow-more, end-none, end-more, end-out}

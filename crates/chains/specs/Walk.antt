@@ -1,5 +1,5 @@
 -- What one walk along a chain finds, and how often each tier was met.
-use Prim.Native.Nat.{ℕ, _+_, _≤_, _^_}
+use Prim.Native.Nat.{ℕ, _+_, _≤_}
 use mathlib.Core.List.{List, [], _∷_, flatMap}
 use mathlib.Core.Path.{_≡_}
 use lib.ListN.{length, getD, set, drop}

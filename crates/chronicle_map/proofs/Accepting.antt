@@ -1,4 +1,4 @@
--- An accepted image is a sound one, and what the calls ask of it is known. Assumes nothing.
+-- An accepted image is a sound one, and what the calls ask of it is known.
 use Prim.Native.Nat.{ℕ}
 use mathlib.Core.List.{List}
 use mathlib.Core.Path.{_≡_, refl, ap, sym, _∙_, subst}
@@ -12,7 +12,6 @@ use Rattle.layout.specs.Frame.{shapeOf}
 use Rattle.layout.proofs.Frames.{shape-settings}
 use Rattle.upkeep.specs.Sound.{SoundImage}
 use Rattle.image.specs.declared.Counts.{Counts}
-use Rattle.image.specs.declared.Outcome.{Outcome}
 use Rattle.image.specs.declared.Outcome.the-variants as outcome
 use Rattle.image.specs.declared.Verdict.{Verdict}
 use Rattle.image.specs.declared.Examined.{Examined}

@@ -1,4 +1,4 @@
--- Demand 2: what the check accepts, what a lookup finds, and what an edit alters. Assumes nothing.
+-- Demand 2: what the check accepts, what a lookup finds, and what an edit alters.
 use Prim.Native.Nat.{ℕ}
 use mathlib.Core.List.{List, [], _∷_, List·Memᴰ}
 use mathlib.Core.Path.{_≡_, refl, ap, sym, _∙_, subst}

@@ -1,12 +1,10 @@
--- The refusals, test by test, as the code asks them. Assumes nothing.
+-- The refusals, test by test, as the code asks them.
 use Prim.Native.Nat.{ℕ, _≤_, _<_}
 use mathlib.Core.List.{List}
 use mathlib.Core.Path.{_≡_, refl, ap, sym, _∙_}
-use mathlib.Core.Logic.{_≢_}
 use native.Mathlib.Omega.{arith}
 use lib.ListN.{length}
 use Rattle.words.specs.Bytes.{Bytes}
-use Rattle.settings.specs.declared.Settings.{Settings}
 use Rattle.settings.specs.Rules.{Valid}
 use Rattle.layout.specs.declared.Shape.{Shape}
 use Rattle.entries.specs.Keys.{KeyFits}
@@ -85,7 +83,9 @@ module _ (block img key : List ℕ) where
 
       pub key-right : 1 ≤ length key → length key ≤ 1024 → Ready z c ≡ asked block img (aKey key)
       unfolding givenValueFits?
-      key-right a b = value-yes z c (aKey key) (givenValueFits? (z .settings) (aKey key)) tt ∙ sym (from-ready ∙ key-yes z c (aKey key) (givenKeyFits? (z .settings) (aKey key)) (a, b))
+      key-right a b =
+          value-yes z c (aKey key) (givenValueFits? (z .settings) (aKey key)) tt
+          ∙ sym (from-ready ∙ key-yes z c (aKey key) (givenKeyFits? (z .settings) (aKey key)) (a, b))
 
   ready-key : (z : Shape) (c : Counts) (w : Shape) (d : Counts) (k : Dec (GivenKeyFits (w .settings) (aKey key))) → examine block img ≡ Ready w d
       → afterKey w d (aKey key) k ≡ Ready z c → KeyReady block img key z c
@@ -155,7 +155,8 @@ module _ (block img key value : List ℕ) where
     pub keyFits : KeyFits (z .settings) (length key)
     pub valueFits : ValueFits (z .settings) key value
 
-  ready-entry : (z : Shape) (c : Counts) (w : Shape) (d : Counts) (k : Dec (GivenKeyFits (w .settings) (anEntry key value))) (v : Dec (GivenValueFits (w .settings) (anEntry key value)))
+  ready-entry : (z : Shape) (c : Counts) (w : Shape) (d : Counts) (k : Dec (GivenKeyFits (w .settings) (anEntry key value)))
+      (v : Dec (GivenValueFits (w .settings) (anEntry key value)))
       → givenValueFits? (w .settings) (anEntry key value) ≡ v → examine block img ≡ Ready w d → afterKey w d (anEntry key value) k ≡ Ready z c → EntryReady z c
   unfolding afterKey afterValue
   ready-entry z c w d (no n) v q e f = never f
@@ -168,7 +169,8 @@ module _ (block img key value : List ℕ) where
   entry-ready-by : (z : Shape) (c : Counts) (x : Examined) → examine block img ≡ x → afterExamined (anEntry key value) x ≡ Ready z c → EntryReady z c
   unfolding afterExamined
   entry-ready-by z c (Refused s) e f = never f
-  entry-ready-by z c (Ready w d) e f = ready-entry z c w d (givenKeyFits? (w .settings) (anEntry key value)) (givenValueFits? (w .settings) (anEntry key value)) refl e f
+  entry-ready-by z c (Ready w d) e f =
+      ready-entry z c w d (givenKeyFits? (w .settings) (anEntry key value)) (givenValueFits? (w .settings) (anEntry key value)) refl e f
 
   module _ (z : Shape) (c : Counts) {x : Examined} (ex : x ≡ asked block img (anEntry key value)) (e : x ≡ Ready z c) where
     pub entry-ready : EntryReady z c

@@ -1,4 +1,4 @@
--- The calls' answers, as the code puts them together. Assumes nothing.
+-- The calls' answers, as the code puts them together.
 use Prim.Native.Nat.{ℕ, _+_, _-_, _≤_}
 use mathlib.Core.List.{List}
 use mathlib.Core.Path.{_≡_, refl, ap, sym, _∙_, subst}

@@ -1,15 +1,13 @@
--- The live entries that cover a chunk of a tier are those of the tier that cover it. Assumes nothing.
+-- The live entries that cover a chunk of a tier are those of the tier that cover it.
 use Prim.Native.Nat.{ℕ, _+_, _<_}
 use mathlib.Core.List.{List, List·Memᴰ}
-use mathlib.Core.Path.{_≡_, refl, ap, sym, _∙_}
+use mathlib.Core.Path.{_≡_, ap, sym, _∙_}
 use mathlib.Core.Logic.{_≢_}
-use mathlib.Core.Bool.{Bool, true, false, _&&_}
+use mathlib.Core.Bool.{false}
 use native.Mathlib.Omega.{arith}
-use lib.Dec.{eqb}
 use lib.ListN.{length}
 use borrow.Author.Tests.{eq-eqb, ne-eqb}
-use Rattle.lists.specs.Lists.{below, those, howMany, total}
-use Rattle.lists.specs.Quantify.{Every}
+use Rattle.lists.specs.Lists.{below, howMany, total}
 use Rattle.lists.proofs.Lists.{span-in}
 use Rattle.lists.proofs.Rows.{row-in}
 use Rattle.lists.proofs.SameLists.{same-those}
@@ -40,7 +38,8 @@ module _ (z : Shape) (img : List ℕ) (fits : ChainsFit z img) (s t i : ℕ) (hs
 
   elsewhere : (s′ u : ℕ) → u ≢ t → howMany (liveIn z img s′ u) (coversIn t i) ≡ 0
   elsewhere s′ u ne =
-      ap length (same-those (coversIn t i) (λ _. false) (liveIn z img s′ u) (λ e m. rw (ne-eqb (e .tier) t (λ (q : e .tier ≡ t). ne (sym (live-tier s′ u e m) ∙ q)), coversIn)))
+      ap length (same-those (coversIn t i) (λ _. false) (liveIn z img s′ u)
+      (λ e m. rw (ne-eqb (e .tier) t (λ (q : e .tier ≡ t). ne (sym (live-tier s′ u e m) ∙ q)), coversIn)))
       ∙ howMany-total (liveIn z img s′ u) (λ _. false) ∙ total-zero (liveIn z img s′ u)
 
   abbrev of-segment : ℕ → ℕ
@@ -48,8 +47,10 @@ module _ (z : Shape) (img : List ℕ) (fits : ChainsFit z img) (s t i : ℕ) (hs
 
   own : of-segment s ≡ howMany (liveIn z img s t) (covers i)
   own =
-      let c : total (chain z img s) (λ u. howMany (liveIn z img s u) (coversIn t i)) + 0 ≡ total (chain z img s) (λ _. 0) + howMany (liveIn z img s t) (coversIn t i) =
-      total-change (chain z img s) t (λ _. 0) (λ u. howMany (liveIn z img s u) (coversIn t i)) (chain-once z img fits s t hs mt) (λ u mu ne. elsewhere s u ne) in
+      let c : total (chain z img s) (λ u. howMany (liveIn z img s u) (coversIn t i)) + 0
+      ≡ total (chain z img s) (λ _. 0) + howMany (liveIn z img s t) (coversIn t i) =
+      total-change (chain z img s) t (λ _. 0) (λ u. howMany (liveIn z img s u) (coversIn t i)) (chain-once z img fits s t hs mt)
+      (λ u mu ne. elsewhere s u ne) in
       omega (arith, total-zero (chain z img s), here s)
 
   other : (s′ : ℕ) → s′ < segments → s′ ≢ s → of-segment s′ ≡ 0
@@ -63,7 +64,9 @@ module _ (z : Shape) (img : List ℕ) (fits : ChainsFit z img) (s t i : ℕ) (hs
   covered-live =
       let a : howMany (live z img) (coversIn t i) ≡ total (below segments) of-segment =
       howMany-flatMap (liveOf z img) (below segments) (coversIn t i)
-      ∙ total-same (below segments) of-segment (λ s′. howMany (liveOf z img s′) (coversIn t i)) (λ s′ m. howMany-flatMap (liveIn z img s′) (chain z img s′) (coversIn t i)) in
+      ∙ total-same (below segments) of-segment (λ s′. howMany (liveOf z img s′) (coversIn t i))
+      (λ s′ m. howMany-flatMap (liveIn z img s′) (chain z img s′) (coversIn t i)) in
       let b : total (below segments) of-segment + 0 ≡ total (below segments) (λ _. 0) + of-segment s =
-      total-change (below segments) s (λ _. 0) of-segment (row-in 0 segments s (omega arith) (omega arith)) (λ s′ m ne. other s′ (omega (arith, span-in 0 segments s′ m)) ne) in
+      total-change (below segments) s (λ _. 0) of-segment (row-in 0 segments s (omega arith) (omega arith))
+      (λ s′ m ne. other s′ (omega (arith, span-in 0 segments s′ m)) ne) in
       omega (arith, a, b, total-zero (below segments), own)

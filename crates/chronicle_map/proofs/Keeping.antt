@@ -1,11 +1,9 @@
--- Demand 3: any list of calls on an accepted image. Assumes nothing.
+-- Demand 3: any list of calls on an accepted image.
 use Prim.Native.Nat.{ℕ, _≤_, _<_}
-use mathlib.Core.List.{List, [], _∷_, _++_, List·Memᴰ}
+use mathlib.Core.List.{List, [], _∷_, List·Memᴰ}
 use mathlib.Core.Path.{_≡_, refl, ap, sym, _∙_, subst}
 use mathlib.Core.Logic.{_≢_, _⊎_, inl, inr, ⊎-elim}
-use mathlib.Core.Bool.{Bool, true, false}
 use native.Mathlib.Omega.{arith}
-use lib.Dec.{eqb}
 use lib.ListN.{length, length-map}
 use Rattle.lists.specs.Cases.{same-or}
 use Rattle.lists.specs.Lists.{howMany, total}
@@ -14,23 +12,21 @@ use Rattle.words.specs.Bytes.{Bytes}
 use Rattle.settings.specs.declared.Settings.{Settings}
 use Rattle.settings.specs.Block.{settingsOf}
 use Rattle.layout.specs.declared.Shape.{Shape}
-use Rattle.layout.specs.Tiers.{IsExtra}
 use Rattle.layout.specs.Places.{mark}
-use Rattle.layout.specs.Frame.{shapeOf}
 use Rattle.layout.proofs.Marks.{mark-lt}
-use Rattle.chains.specs.Chains.{chain, chained, chainedExtra, freeChain}
+use Rattle.chains.specs.Chains.{chain, chained}
 use Rattle.entries.specs.Stored.{chunksFor}
 use Rattle.entries.specs.Live.{live}
 use Rattle.chunks.specs.Chunks.{markedChunks}
-use Rattle.upkeep.specs.Sound.{Pair, pairOf, pairsOf}
+use Rattle.upkeep.specs.Sound.{pairOf, pairsOf}
 use Rattle.upkeep.proofs.Chained.{chained-in, extra-once}
 use Rattle.upkeep.proofs.KeyCounts.{withKey, keys-once}
 use Rattle.upkeep.proofs.Marked.{marked-sum}
 use Rattle.image.specs.declared.Counts.{Counts}
 use Rattle.image.specs.declared.Outcome.the-variants as outcome
 use Rattle.image.specs.Check.{countsOf, check}
-use Rattle.chronicle_map.specs.History.{Call, looksUp, stores, removes, Said, says, leaves, row10, run, answers, told, Map, hasKey, mapOf, Recalled, recall, mapAnswers, mapAfter}
-use Rattle.chronicle_map.specs.Demands.{Accepted, ByteCalls, shape, coversIn, Kept, Keeps}
+use Rattle.chronicle_map.specs.History.{Call, leaves, row10, run, answers, told, Map, hasKey, mapOf, recall, mapAnswers, mapAfter}
+use Rattle.chronicle_map.specs.Demands.{Accepted, ByteCalls, shape, coversIn, Keeps}
 use Rattle.chronicle_map.proofs.Weights.{Weigh, weigh-in, weigh-length}
 use Rattle.chronicle_map.proofs.Accepting.{Holds, holds-shape, holds-accepted, holds-counts, accepted-holds}
 use Rattle.chronicle_map.proofs.Steps.{Step, step}
@@ -45,7 +41,8 @@ module _ (block : List ℕ) (z : Shape) where
   same-answers [] img m h w b = refl
   same-answers (c ∷ cs) img m h w b =
       let s : Step block img z h m w c = step block img z h m w c (b .0) in
-      let rest : answers block (leaves block img c) cs ≡ mapAnswers (z .settings) (recall (z .settings) m c (row10 block img c) .map) cs (told block (leaves block img c) cs) =
+      let rest : answers block (leaves block img c) cs
+      ≡ mapAnswers (z .settings) (recall (z .settings) m c (row10 block img c) .map) cs (told block (leaves block img c) cs) =
       same-answers cs (leaves block img c) (recall (z .settings) m c (row10 block img c) .map) (s .holds) (s .weighs) (b .1) in
       λ i. s .said i ∷ rest i
 
@@ -90,7 +87,8 @@ module _ (block img : List ℕ) (z : Shape) (m : Map) (h : Holds block img z) (w
       → c .chunks ≡ total m (λ p. chunksFor settings (length (p .key)) (length (p .value)))
   unfolding countsOf
   marked c e =
-      ap (λ (x : Counts). x .chunks) (holds-counts block img z h c e) ∙ marked-sum z img (h .sound) ∙ w (λ p. chunksFor settings (length (p .key)) (length (p .value)))
+      ap (λ (x : Counts). x .chunks) (holds-counts block img z h c e) ∙ marked-sum z img (h .sound)
+      ∙ w (λ p. chunksFor settings (length (p .key)) (length (p .value)))
 
 -- ---- demand 3
 
@@ -106,7 +104,8 @@ history block img b a calls bytes = kept (shape block img) refl (accepted-holds 
         → Holds block (run block img calls) z → Weigh (pairsOf z (run block img calls)) m → Keeps block img calls
     fields same z ez es h w =
         let h′ : Holds block (run block img calls) (shape block (run block img calls)) = subst (Holds block (run block img calls)) (sym ez) h in
-        let w′ : Weigh (pairsOf (shape block (run block img calls)) (run block img calls)) m = subst (λ (x : Shape). Weigh (pairsOf x (run block img calls)) m) (sym ez) w in
+        let w′ : Weigh (pairsOf (shape block (run block img calls)) (run block img calls)) m =
+        subst (λ (x : Shape). Weigh (pairsOf x (run block img calls)) m) (sym ez) w in
         let st : shape block (run block img calls) .settings ≡ settingsOf block = h′ .settingsAre in
         record {
           sameAnswers = same;
@@ -125,8 +124,10 @@ history block img b a calls bytes = kept (shape block img) refl (accepted-holds 
     kept : (z : Shape) → shape block img ≡ z → Holds block img z → Keeps block img calls
     kept z e h =
         let w : Weigh (pairsOf z img) (mapOf block img) = λ F. ap (λ (x : Shape). total (pairsOf x img) F) (sym e) in
-        let same : answers block img calls ≡ mapAnswers (z .settings) (mapOf block img) calls (told block img calls) = same-answers block z calls img (mapOf block img) h w bytes in
-        let r : After block z (run block img calls) (mapAfter (z .settings) (mapOf block img) calls (told block img calls)) = after block z calls img (mapOf block img) h w bytes in
+        let same : answers block img calls ≡ mapAnswers (z .settings) (mapOf block img) calls (told block img calls) =
+        same-answers block z calls img (mapOf block img) h w bytes in
+        let r : After block z (run block img calls) (mapAfter (z .settings) (mapOf block img) calls (told block img calls)) =
+        after block z calls img (mapOf block img) h w bytes in
         let st : z .settings ≡ settingsOf block = h .settingsAre in
         let same′ : answers block img calls ≡ mapAnswers (settingsOf block) (mapOf block img) calls (told block img calls) =
         same ∙ ap (λ (x : Settings). mapAnswers x (mapOf block img) calls (told block img calls)) st in

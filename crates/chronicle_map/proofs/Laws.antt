@@ -1,4 +1,4 @@
--- What a crate above the calls needs of them: the check's refusal is every call's, a lookup reads the map, a store leaves bytes. Assumes nothing.
+-- What a crate above the calls needs of them: the check's refusal is every call's, a lookup reads the map, a store leaves bytes.
 use Prim.Native.Nat.{ℕ, _≤_}
 use mathlib.Core.List.{List, List·Memᴰ}
 use mathlib.Core.Path.{_≡_, refl, ap, sym, _∙_}

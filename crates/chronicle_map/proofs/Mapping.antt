@@ -1,14 +1,12 @@
--- A map that weighs what the image's keys and records weigh finds what the image's live entries hold. Assumes nothing.
+-- A map that weighs what the image's keys and records weigh finds what the image's live entries hold.
 use Prim.Native.Nat.{ℕ}
 use mathlib.Core.List.{List, List·Memᴰ}
-use mathlib.Core.Path.{_≡_, refl, ap, sym, _∙_}
-use mathlib.Core.Bool.{Bool, true, false}
-use mathlib.Core.Option.{Option, none, some}
+use mathlib.Core.Path.{_≡_, ap, sym, _∙_}
+use mathlib.Core.Bool.{true, false}
+use mathlib.Core.Option.{none, some}
 use native.Mathlib.Omega.{arith}
 use Rattle.lists.specs.Cases.{by-test}
-use Rattle.lists.specs.Quantify.{Every}
 use Rattle.lists.proofs.Members.{none-first, first-only}
-use Rattle.words.specs.Bytes.{same}
 use Rattle.words.proofs.Bytes.{same-eq, same-true}
 use Rattle.layout.specs.declared.Shape.{Shape}
 use Rattle.entries.specs.declared.Live.{Live}

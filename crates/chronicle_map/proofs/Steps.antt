@@ -1,4 +1,4 @@
--- One call on an accepted image: it answers what the map answers, and leaves an image and a map that agree again. Assumes nothing.
+-- One call on an accepted image: it answers what the map answers, and leaves an image and a map that agree again.
 use Prim.Native.Nat.{ℕ, _+_}
 use mathlib.Core.List.{List, []}
 use mathlib.Core.Path.{_≡_, refl, ap, sym, _∙_}

@@ -1,18 +1,14 @@
--- Two lists of keys and records that weigh the same, whatever the weights, have the same members. Assumes nothing.
-use Prim.Native.Nat.{ℕ, suc, _+_, _≤_, _<_}
-use mathlib.Core.List.{List, [], _∷_, List·Memᴰ, List·Memᴰ·head, List·Memᴰ·tail, List·Memᴰ·not-nil, List·Memᴰ·cases-cons}
-use mathlib.Core.Path.{_≡_, refl, ap, sym, _∙_}
-use mathlib.Core.Logic.{⊎-elim, _≢_}
-use mathlib.Core.Bool.{Bool, true, false, not, _&&_, false≢true}
-use mathlib.Core.Option.{Option, none, some}
+-- Two lists of keys and records that weigh the same, whatever the weights, have the same members.
+use Prim.Native.Nat.{ℕ, _≤_, _<_}
+use mathlib.Core.List.{List, List·Memᴰ}
+use mathlib.Core.Path.{_≡_, sym, _∙_}
+use mathlib.Core.Bool.{Bool, true, false, _&&_}
 use native.Mathlib.Omega.{arith}
 use lib.ListN.{length}
-use Rattle.lists.specs.Cases.{by-test, same-or}
-use Rattle.lists.specs.Lists.{first, those, howMany, total}
-use Rattle.lists.specs.Quantify.{Every}
-use Rattle.lists.proofs.Members.{first-in, first-fails, none-first, first-only}
+use Rattle.lists.specs.Cases.{by-test}
+use Rattle.lists.specs.Lists.{those, total}
 use Rattle.words.specs.Bytes.{same}
-use Rattle.words.proofs.Bytes.{same-eq, same-true, same-refl}
+use Rattle.words.proofs.Bytes.{same-true, same-refl}
 use Rattle.upkeep.specs.Sound.{Pair}
 use Rattle.lists.proofs.Totals.{total-at, total-some, those-total, length-total}
 

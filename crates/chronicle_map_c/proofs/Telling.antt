@@ -1,4 +1,4 @@
--- The numbers of an answer, once the code knows which it is. Assumes nothing.
+-- The numbers of an answer, once the code knows which it is.
 use Prim.Native.Nat.{ℕ}
 use mathlib.Core.List.{List, _∷_}
 use mathlib.Core.Path.{_≡_, ap, sym, _∙_}
@@ -17,7 +17,8 @@ module _ {A B : Type 0} (numbers : A → B) {r x y : A} (found : r ≡ y) (due :
   told-part whole shape e = ap whole e ∙ sym shape ∙ told
 
 -- with its first number worked out by a call
-pub told-first : {A : Type 0} (numbers : A → List ℕ) {r x y : A} → r ≡ y → r ≡ x → {n m : ℕ} {rest : List ℕ} → numbers y ≡ m ∷ rest → n ≡ m → n ∷ rest ≡ numbers x
+pub told-first : {A : Type 0} (numbers : A → List ℕ) {r x y : A} → r ≡ y → r ≡ x → {n m : ℕ} {rest : List ℕ} → numbers y ≡ m ∷ rest → n ≡ m
+    → n ∷ rest ≡ numbers x
 told-first numbers found due {rest = rest} shape e = told-part numbers found due (λ (k : ℕ). k ∷ rest) shape e
 
 -- an edit's number, and the image as it left it

@@ -1,9 +1,8 @@
--- What counting the chunks of entries finds. Assumes nothing.
+-- What counting the chunks of entries finds.
 use Prim.Native.Nat.{ℕ, _+_, _≤_, _<_}
 use mathlib.Core.List.{List, [], _∷_, _++_, map, flatMap, append-nil}
 use mathlib.Core.Path.{_≡_, refl, ap, sym, _∙_, subst}
 use mathlib.Core.Logic.{⊎-elim, _≢_}
-use mathlib.Core.Bool.{not}
 use native.Mathlib.Omega.{arith}
 use native.Mathlib.Numerals.{add-one}
 use lib.Dec.{eqb}
@@ -63,8 +62,10 @@ one-more i e es =
     (λ (l : i < e .chunk). rw (lt-leb (e .chunk) i l, those) (omega (arith, row-before (e .chunk) (e .chunks) i l)))
     (λ (l : e .chunk ≤ i).
     ⊎-elim
-    (λ (k : i < e .chunk + e .chunks). rw (le-leb (e .chunk) i l, lt-ltb i (e .chunk + e .chunks) k, those) (omega (arith, row-in (e .chunk) (e .chunks) i l k)))
-    (λ (k : e .chunk + e .chunks ≤ i). rw (le-leb (e .chunk) i l, le-ltb i (e .chunk + e .chunks) k, those) (omega (arith, row-after (e .chunk) (e .chunks) i k)))
+    (λ (k : i < e .chunk + e .chunks).
+    rw (le-leb (e .chunk) i l, lt-ltb i (e .chunk + e .chunks) k, those) (omega (arith, row-in (e .chunk) (e .chunks) i l k)))
+    (λ (k : e .chunk + e .chunks ≤ i).
+    rw (le-leb (e .chunk) i l, le-ltb i (e .chunk + e .chunks) k, those) (omega (arith, row-after (e .chunk) (e .chunks) i k)))
     (lt-or i (e .chunk + e .chunks)))
     (lt-or i (e .chunk))
 

@@ -1,4 +1,4 @@
--- Counts and bits by eights: the whole bytes of a tier's free list. Assumes nothing.
+-- Counts and bits by eights: the whole bytes of a tier's free list.
 use Prim.Native.Nat.{ℕ, _+_, _-_, _*_, _/_, _%_, _≤_, _<_}
 use mathlib.Core.List.{List}
 use mathlib.Core.Path.{_≡_, refl, ap, sym, _∙_, subst}
@@ -121,10 +121,14 @@ module _ {n i : ℕ} {P : ℕ → Type 0} (w : Whole n i P) where
 -- ---- a byte of 1s, a byte of 0s
 
 all-ones : Below 8 (λ k. bitOf 255 k ≡ 1)
-all-ones = below-join (λ k. bitOf 255 k ≡ 1) 4 4 (four-below (λ k. bitOf 255 k ≡ 1) refl refl refl refl) (four-below (λ k. bitOf 255 (4 + k) ≡ 1) refl refl refl refl)
+all-ones =
+    below-join (λ k. bitOf 255 k ≡ 1) 4 4 (four-below (λ k. bitOf 255 k ≡ 1) refl refl refl refl)
+    (four-below (λ k. bitOf 255 (4 + k) ≡ 1) refl refl refl refl)
 
 all-zeros : Below 8 (λ k. bitOf 0 k ≡ 0)
-all-zeros = below-join (λ k. bitOf 0 k ≡ 0) 4 4 (four-below (λ k. bitOf 0 k ≡ 0) refl refl refl refl) (four-below (λ k. bitOf 0 (4 + k) ≡ 0) refl refl refl refl)
+all-zeros =
+    below-join (λ k. bitOf 0 k ≡ 0) 4 4 (four-below (λ k. bitOf 0 k ≡ 0) refl refl refl refl)
+    (four-below (λ k. bitOf 0 (4 + k) ≡ 0) refl refl refl refl)
 
 module _ (z : Shape) (img : List ℕ) (t i v : ℕ) (b : IsByte z img t i v) where
   pub ones-marked : v ≡ 255 → Below 8 (λ k. mark z img t (i + k) ≢ 0)

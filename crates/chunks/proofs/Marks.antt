@@ -1,4 +1,4 @@
--- What the loops over a tier's marks find. Assumes nothing.
+-- What the loops over a tier's marks find.
 use Prim.Native.Nat.{ℕ, _+_, _≤_, _<_}
 use mathlib.Core.List.{List}
 use mathlib.Core.Path.{_≡_, refl, _∙_, subst}
@@ -8,7 +8,7 @@ use native.Mathlib.Nat.{zero-add}
 use lib.Dec.{eqb}
 use borrow.Author.Tests.{eq-eqb, ne-eqb}
 use Rattle.lists.specs.Cases.{same-or}
-use Rattle.lists.specs.Lists.{span, below, first, those, howMany}
+use Rattle.lists.specs.Lists.{span, below, first, those}
 use Rattle.lists.specs.Quantify.{Below}
 use Rattle.lists.proofs.Lists.{howMany-le, length-span}
 use Rattle.layout.specs.declared.Shape.{Shape}
@@ -62,7 +62,8 @@ module _ (z : Shape) (img : List ℕ) (t : ℕ) where
   unfolding lowestClear
   lowest-at n h f e =
       let g : first (below (z .settings .chunks)) (clear z img t) ≡ mathlib.Core.Option.some (0 + n) =
-      first-at (clear z img t) 0 (z .settings .chunks) n h (λ i l. rw zero-add (ne-eqb (mark z img t i) 0 (f i l))) (rw zero-add (eq-eqb (mark z img t n) 0 e)) in
+      first-at (clear z img t) 0 (z .settings .chunks) n h (λ i l. rw zero-add (ne-eqb (mark z img t i) 0 (f i l)))
+      (rw zero-add (eq-eqb (mark z img t n) 0 e)) in
       rw (g, zero-add)
 
   pub lowest-none : Below (z .settings .chunks) (λ i. mark z img t i ≢ 0) → z .settings .chunks ≡ lowestClear z img t

@@ -1,4 +1,4 @@
--- A chain gone through up to its end, tier by tier: what was met so far, and what is left. Assumes nothing.
+-- A chain gone through up to its end, tier by tier: what was met so far, and what is left.
 use Prim.Native.Nat.{ℕ, zero, suc, _≤_, _<_}
 use mathlib.Core.List.{List, [], _∷_, _++_, append-nil, List·Memᴰ, List·Memᴰ·head, Memᴰ·append-right}
 use mathlib.Core.Path.{_≡_, refl, ap, sym, _∙_}

@@ -55,7 +55,8 @@ module _ (z : Shape) (img : List ℕ) where
 
   unfoldable pub tierFits? : (s t : ℕ) → Dec (TierFits s t)
   tierFits? s t =
-      rule (λ v. v .marks) (below? (λ i. howMany (liveIn z img s t) (covers i) ≡ mark z img t i) (λ i. ℕ-discrete (howMany (liveIn z img s t) (covers i)) (mark z img t i)) chunks) λ a.
+      rule (λ v. v .marks) (below? (λ i. howMany (liveIn z img s t) (covers i) ≡ mark z img t i)
+      (λ i. ℕ-discrete (howMany (liveIn z img s t) (covers i)) (mark z img t i)) chunks) λ a.
       rule (λ v. v .entryCount) (ℕ-discrete (get z img (countPlace z t)) (length (fullSlots z img t))) λ b.
       rule (λ v. v .lowMark) (ℕ-discrete (get z img (lowPlace z t)) (lowestClear t)) λ c.
       yes (record { marks = a; entryCount = b; lowMark = c })

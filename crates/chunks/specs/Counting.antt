@@ -57,4 +57,7 @@ module _ (z : Shape) (img : List ℕ) where
 
   -- the entry of each full slot of tier t ends within the tier
   abbrev pub RangesIn : ℕ → Type 0
-  RangesIn t = Below slots (λ j. slotAt z img t j ≢ 0 → chunkOf z img t j + chunksFor settings (entryAt z img t j .keyLength) (entryAt z img t j .valueLength) ≤ chunks)
+  RangesIn t =
+      Below slots (λ j.
+      slotAt z img t j ≢ 0
+      → chunkOf z img t j + chunksFor settings (entryAt z img t j .keyLength) (entryAt z img t j .valueLength) ≤ chunks)

@@ -1,4 +1,4 @@
--- What the tiers hold, from the answers of the chains and of the free tiers. Assumes nothing.
+-- What the tiers hold, from the answers of the chains and of the free tiers.
 use Prim.Native.Nat.{ℕ}
 use mathlib.Core.List.{List}
 use mathlib.Core.Path.{_≡_, refl, ap₂, sym, _∙_}
@@ -49,7 +49,8 @@ module _ (z : Shape) (img : List ℕ) where
 
   -- ---- as the code has it
 
-  pub contents-told : Image z img → ChainTiers z img → {a b r : Contents} → AllSay z img (z .settings .segments) a → FreeSays z img b → r ≡ joined a b → r ≡ contentsOf z img
+  pub contents-told : Image z img → ChainTiers z img → {a b r : Contents} → AllSay z img (z .settings .segments) a → FreeSays z img b
+      → r ≡ joined a b → r ≡ contentsOf z img
   unfolding live markedChunks chained
   contents-told im ts {a} {b} {r} p q e =
       told r

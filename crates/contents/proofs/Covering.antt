@@ -1,4 +1,4 @@
--- The entries of a tier's full slots, counted at their chunks one by one. Assumes nothing.
+-- The entries of a tier's full slots, counted at their chunks one by one.
 use Prim.Native.Nat.{ℕ, suc, _+_, _≤_, _<_}
 use mathlib.Core.List.{List, [], _∷_, _++_, map, flatMap, List·Memᴰ, List·Memᴰ·head, Memᴰ·append-right}
 use mathlib.Core.Path.{_≡_, refl, ap, sym, _∙_, subst}
@@ -41,7 +41,8 @@ module _ (z : Shape) (img : List ℕ) (t : ℕ) {list : List ℕ} {full : ℕ} (
   listed-in i h =
       let m : List·Memᴰ (getD (take full list) i 0) (take i (take full list) ++ getD (take full list) i 0 ∷ drop (suc i) (take full list)) =
       Memᴰ·append-right (take i (take full list)) (List·Memᴰ·head {xs = drop (suc i) (take full list)} refl) in
-      let q : List·Memᴰ (getD (take full list) i 0) (take full list) = subst (List·Memᴰ (getD (take full list) i 0)) (sym (split-at (take full list) i 0 (omega (arith, long)))) m in
+      let q : List·Memᴰ (getD (take full list) i 0) (take full list) =
+      subst (List·Memᴰ (getD (take full list) i 0)) (sym (split-at (take full list) i 0 (omega (arith, long)))) m in
       subst (List·Memᴰ (getD list i 0)) (l .are) (subst (λ (x : ℕ). List·Memᴰ x (take full list)) (getD-take full list i 0 h) q)
 
   pub listed : (i : ℕ) → i < full → (getD list i 0 < slots) × (slotAt z img t (getD list i 0) ≢ 0)

@@ -1,4 +1,4 @@
--- The list of a tier's full slots, as its loop makes it. Assumes nothing.
+-- The list of a tier's full slots, as its loop makes it.
 use Prim.Native.Nat.{ℕ, suc, _+_, _≤_, _<_}
 use mathlib.Core.List.{List, [], _∷_, _++_}
 use mathlib.Core.Path.{_≡_, refl, ap, sym, _∙_}
@@ -46,7 +46,8 @@ module _ (z : Shape) (img : List ℕ) (t : ℕ) where
           long = length-set now n j ∙ w .long;
           gathered =
               ap (λ (k : ℕ). take k (set now n j)) em ∙ take-suc-set now n j (omega (arith, w .few, w .long)) ∙
-              ap (λ (r : List ℕ). r ++ (j ∷ [])) (w .gathered) ∙ sym (those-more (λ i. not (eqb (slotAt z img t i) 0)) j (ap not (ne-eqb (slotAt z img t j) 0 ne)));
+              ap (λ (r : List ℕ). r ++ (j ∷ [])) (w .gathered)
+              ∙ sym (those-more (λ i. not (eqb (slotAt z img t i) 0)) j (ap not (ne-eqb (slotAt z img t j) 0 ne)));
         }
 
     pub gathering-empty : slotAt z img t j ≡ 0 → m ≡ n → Gathering before (set now n j) m (j + 1)

@@ -1,4 +1,4 @@
--- The rules of one tier, from what its loops found. Assumes nothing.
+-- The rules of one tier, from what its loops found.
 use Prim.Native.Nat.{ℕ, _≤_, _<_}
 use mathlib.Core.List.{List}
 use mathlib.Core.Path.{_≡_, ap, sym, _∙_, subst}
@@ -71,7 +71,8 @@ module _ (z : Shape) (img : List ℕ) (s t : ℕ) where
             let n : MarksBelow z img t covered chunks Differ = subst (MarksBelow z img t covered chunks) e w in
             tier-wrong (λ f. n (λ i h. counted i h ∙ f .marks i h))
 
-        pub tier-right : (m : ℕ) → r ≡ Same m → {n : ℕ} → n ≡ length (fullSlots z img t) → get z img (countPlace z t) ≡ n → get z img (lowPlace z t) ≡ lowestClear z img t
+        pub tier-right : (m : ℕ) → r ≡ Same m → {n : ℕ} → n ≡ length (fullSlots z img t) → get z img (countPlace z t) ≡ n
+            → get z img (lowPlace z t) ≡ lowestClear z img t
             → TierSays z img s t (Fit n m)
         tier-right m e en c l =
             let a : MarksBelow z img t covered chunks (Same m) = subst (MarksBelow z img t covered chunks) e w in

@@ -1,4 +1,4 @@
--- Answers taken together, and answers to questions that say the same. Assumes nothing.
+-- Answers taken together, and answers to questions that say the same.
 use Prim.Native.Nat.{ℕ, _+_, _≤_}
 use mathlib.Core.Path.{_≡_, _∙_, sym, subst}
 use native.Mathlib.Omega.{arith}
@@ -15,7 +15,12 @@ module _ {E C E′ C′ : Type 0} {n m n′ m′ : ℕ} where
   joined-says (Fit a b) BadEntries p q = record { so = λ e. q .so (e .1) }
   joined-says (Fit a b) BadChunks p q = record { so = ((p .so .0 .0, q .so .0), λ c. q .so .1 (c .1)) }
   joined-says (Fit a b) (Fit x y) p q =
-      record { so = (((p .so .0 .0, q .so .0 .0), (p .so .0 .1, q .so .0 .1)), (omega (arith, p .so .1 .0, q .so .1 .0), omega (arith, p .so .1 .1, q .so .1 .1))) }
+      record {
+        so = (
+          ((p .so .0 .0, q .so .0 .0), (p .so .0 .1, q .so .0 .1)),
+          (omega (arith, p .so .1 .0, q .so .1 .0), omega (arith, p .so .1 .1, q .so .1 .1)),
+        );
+      }
 
   pub both-say : {a b r : Contents} → r ≡ joined a b → Says E C n m a → Says E′ C′ n′ m′ b → Says (E × E′) (C × C′) (n + n′) (m + m′) r
   both-say {a} {b} e p q = subst (Says (E × E′) (C × C′) (n + n′) (m + m′)) (sym e) (joined-says a b p q)
@@ -32,7 +37,8 @@ says-small k hn hm BadChunks p = tt
 says-small k hn hm (Fit a b) p = (omega (arith, p .so .1 .0), omega (arith, p .so .1 .1))
 
 -- counts that are added, with the equations that they are taken by
-pub can-add : (a b : Contents) → AtMost 4294967296 a → AtMost 4294967296 b → (n m : ℕ) → a ≡ Fit n m → (n′ m′ : ℕ) → b ≡ Fit n′ m′ → (n + n′ ≤ 8589934592) × (m + m′ ≤ 8589934592)
+pub can-add : (a b : Contents) → AtMost 4294967296 a → AtMost 4294967296 b → (n m : ℕ) → a ≡ Fit n m → (n′ m′ : ℕ) → b ≡ Fit n′ m′
+    → (n + n′ ≤ 8589934592) × (m + m′ ≤ 8589934592)
 can-add a b p q n m e n′ m′ f =
     let p′ : AtMost 4294967296 (Fit n m) = subst (AtMost 4294967296) e p in
     let q′ : AtMost 4294967296 (Fit n′ m′) = subst (AtMost 4294967296) f q in

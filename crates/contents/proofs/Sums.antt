@@ -1,4 +1,4 @@
--- The answers for a chain's tiers taken together, and for the chains one after the other. Assumes nothing.
+-- The answers for a chain's tiers taken together, and for the chains one after the other.
 use Prim.Native.Nat.{ℕ, suc, _+_, _*_, _≤_, _<_}
 use mathlib.Core.List.{List, [], _∷_, _++_, flatMap, append-nil}
 use mathlib.Core.Path.{_≡_, refl, ap, sym, _∙_, subst}
@@ -140,7 +140,8 @@ module _ (z : Shape) (img : List ℕ) where
 
   more-marked-first : (s : ℕ) → markedFirst s + total (chain z img s) (markedIn z img) ≡ markedFirst (s + 1)
   more-marked-first s =
-      sym (ap (λ (r : List ℕ). total r (markedIn z img)) (flatMap-below (chain z img) s) ∙ total-append (markedIn z img) (flatMap (chain z img) (below s)) (chain z img s))
+      sym (ap (λ (r : List ℕ). total r (markedIn z img)) (flatMap-below (chain z img) s)
+      ∙ total-append (markedIn z img) (flatMap (chain z img) (below s)) (chain z img s))
 
   module _ (fewSlots : slots ≤ 4096) (fewChunks : chunks ≤ 4096) (fewTiers : tiers z ≤ 1024) where
     live-few : (s : ℕ) → length (liveOf z img s) ≤ 4194304
@@ -172,14 +173,17 @@ module _ (z : Shape) (img : List ℕ) where
     pub all-small : segments ≤ 256 → AtMost 4294967296 sum
     all-small h = says-small 4294967296 (omega (arith, w .low, w .small)) (omega (arith, w .low, w .small)) sum (w .says)
 
-    pub all-turns : slots ≤ 4096 → chunks ≤ 4096 → tiers z ≤ 1024 → s < segments → {r next : Contents} → ChainSays z img s r → next ≡ joined sum r → AllSumming next (s + 1)
+    pub all-turns : slots ≤ 4096 → chunks ≤ 4096 → tiers z ≤ 1024 → s < segments → {r next : Contents} → ChainSays z img s r
+        → next ≡ joined sum r → AllSumming next (s + 1)
     all-turns a b c h {r} {next} q e =
         record {
           low = omega arith;
           says =
               says-as
-              (λ p. rw (add-one s) (below-suc (λ s. Every (chain z img s) (TierHolds z img s)) s (p .0) (p .1))) (first-below (λ s. Every (chain z img s) (TierHolds z img s)) s)
-              (λ p. rw (add-one s) (below-suc (λ s. Every (chain z img s) (TierFits z img s)) s (p .0) (p .1))) (first-below (λ s. Every (chain z img s) (TierFits z img s)) s)
+              (λ p. rw (add-one s) (below-suc (λ s. Every (chain z img s) (TierHolds z img s)) s (p .0) (p .1)))
+              (first-below (λ s. Every (chain z img s) (TierHolds z img s)) s)
+              (λ p. rw (add-one s) (below-suc (λ s. Every (chain z img s) (TierFits z img s)) s (p .0) (p .1)))
+              (first-below (λ s. Every (chain z img s) (TierFits z img s)) s)
               (more-live-first s) (more-marked-first s) next (both-say e (w .says) q);
           small = omega (arith, w .small, more-live-first s, more-marked-first s, live-few a b c s, marks-few a b c s);
         }

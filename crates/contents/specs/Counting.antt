@@ -63,7 +63,9 @@ module _ (z : Shape) (img : List ℕ) where
 
   -- of the tiers of segment s's chain
   abbrev pub ChainSays : ℕ → Contents → Type 0
-  ChainSays s = Says (Every (chain z img s) (TierHolds s)) (Every (chain z img s) (TierFits z img s)) (length (liveOf z img s)) (total (chain z img s) (markedIn z img))
+  ChainSays s =
+      Says (Every (chain z img s) (TierHolds s)) (Every (chain z img s) (TierFits z img s)) (length (liveOf z img s))
+      (total (chain z img s) (markedIn z img))
 
   -- of the tiers of the first n segments' chains
   abbrev pub AllSay : ℕ → Contents → Type 0

@@ -1,14 +1,12 @@
--- The search ends at the live entry with the whole key, or there is none. Assumes nothing.
+-- The search ends at the live entry with the whole key, or there is none.
 use Prim.Native.Nat.{ℕ, _<_}
 use mathlib.Core.List.{List, List·Memᴰ}
-use mathlib.Core.Path.{_≡_, refl, ap, sym, _∙_, subst}
+use mathlib.Core.Path.{_≡_, refl, ap, sym, _∙_}
 use mathlib.Core.Logic.{_≢_}
-use mathlib.Core.Bool.{Bool, true, false}
-use mathlib.Core.Option.{Option, none, some}
+use mathlib.Core.Bool.{true, false}
+use mathlib.Core.Option.{none, some}
 use native.Mathlib.Omega.{arith}
-use lib.ListN.{length}
-use Rattle.lists.specs.Cases.{by-test}
-use Rattle.lists.specs.Quantify.{Below, Every}
+use Rattle.lists.specs.Quantify.{Every}
 use Rattle.lists.proofs.Members.{first-in, first-fails, none-first, first-only}
 use Rattle.words.specs.Bytes.{same}
 use Rattle.words.proofs.Bytes.{same-eq, same-true, same-false}
@@ -21,13 +19,12 @@ use Rattle.chains.proofs.Along.{chain-tiers}
 use Rattle.entries.specs.declared.Live.{Live}
 use Rattle.entries.specs.Keys.{segmentOf}
 use Rattle.entries.specs.Stored.{keyOf}
-use Rattle.entries.specs.Live.{slotAt, entryAt, liveAt, live}
+use Rattle.entries.specs.Live.{slotAt, liveAt, live}
 use Rattle.entries.proofs.Hashes.{segment-lt}
 use Rattle.entries.proofs.LiveLists.{IsLive, in-live, live-in}
-use Rattle.search.specs.declared.Found.{Found}
 use Rattle.search.specs.declared.Found.the-variants.{At, Absent}
 use Rattle.search.specs.Search.{seekIn, search}
-use Rattle.search.specs.Rules.{keyAt, SlotsFit, TierFits}
+use Rattle.search.specs.Rules.{keyAt, SlotsFit}
 use Rattle.search.proofs.Landing.{found-at, seek-in-lt, seek-key, lands}
 use Rattle.search.proofs.Fitting.{never-both}
 use Rattle.upkeep.specs.Sound.{SoundImage}
@@ -67,7 +64,8 @@ module _ (z : Shape) (img : List ℕ) (sound : SoundImage z img) where
   -- the segment of a live entry is that of its key
   pub live-segment : (e : Live) → IsLive z img e → segmentOf settings (keyOf img (e .entry)) ≡ e .segment
   live-segment e l =
-      let k : keyOf img (e .entry) ≡ keyAt z img (e .tier) (e .slot) = ap (λ (x : Live). keyOf img (x .entry)) (l .is) ∙ live-key (e .segment) (e .tier) (e .slot) in
+      let k : keyOf img (e .entry) ≡ keyAt z img (e .tier) (e .slot) =
+      ap (λ (x : Live). keyOf img (x .entry)) (l .is) ∙ live-key (e .segment) (e .tier) (e .slot) in
       rw k (slots-fit (e .segment) (l .segmentIn) (e .tier) (l .tierIn) .full (e .slot) (l .slotIn) (l .full) .hashed .segmentAgrees)
 
   -- no two live entries have one key
@@ -76,12 +74,15 @@ module _ (z : Shape) (img : List ℕ) (sound : SoundImage z img) where
     where
       same-live : IsLive z img a → IsLive z img b → a ≡ b
       same-live p q =
-          let ka : keyOf img (a .entry) ≡ keyAt z img (a .tier) (a .slot) = ap (λ (x : Live). keyOf img (x .entry)) (p .is) ∙ live-key (a .segment) (a .tier) (a .slot) in
-          let kb : keyOf img (b .entry) ≡ keyAt z img (b .tier) (b .slot) = ap (λ (x : Live). keyOf img (x .entry)) (q .is) ∙ live-key (b .segment) (b .tier) (b .slot) in
+          let ka : keyOf img (a .entry) ≡ keyAt z img (a .tier) (a .slot) =
+          ap (λ (x : Live). keyOf img (x .entry)) (p .is) ∙ live-key (a .segment) (a .tier) (a .slot) in
+          let kb : keyOf img (b .entry) ≡ keyAt z img (b .tier) (b .slot) =
+          ap (λ (x : Live). keyOf img (x .entry)) (q .is) ∙ live-key (b .segment) (b .tier) (b .slot) in
           let s : a .segment ≡ b .segment = sym (live-segment a p) ∙ ap (segmentOf settings) e ∙ live-segment b q in
           let mb′ : List·Memᴰ (b .tier) (chain z img (a .segment)) = rw s (q .tierIn) in
           let r : (a .tier ≡ b .tier) × (a .slot ≡ b .slot) =
-          sound .entries .keysOnce (a .segment) (p .segmentIn) (a .tier) (p .tierIn) (a .slot) (p .slotIn) (p .full) (b .tier) mb′ (b .slot) (q .slotIn) (q .full) (sym ka ∙ e ∙ kb) in
+          sound .entries .keysOnce (a .segment) (p .segmentIn) (a .tier) (p .tierIn) (a .slot) (p .slotIn) (p .full) (b .tier) mb′ (b .slot)
+          (q .slotIn) (q .full) (sym ka ∙ e ∙ kb) in
           let t : a .tier ≡ b .tier = r .0 in
           let j : a .slot ≡ b .slot = r .1 in
           p .is ∙ (λ i. liveAt z img (s i) (t i) (j i)) ∙ sym (q .is)
@@ -100,7 +101,8 @@ module _ (z : Shape) (img : List ℕ) (sound : SoundImage z img) where
     unfolding search
     search-found t j e =
         let hs : segmentOf settings key < segments = segment-lt (sound .valid) key in
-        let f : (seekIn z img key t ≡ j) × ((slotAt z img t j ≢ 0) × List·Memᴰ t (chain z img (segmentOf settings key))) = found-at z img key 0 0 (chain z img (segmentOf settings key)) t j e in
+        let f : (seekIn z img key t ≡ j) × ((slotAt z img t j ≢ 0) × List·Memᴰ t (chain z img (segmentOf settings key))) =
+        found-at z img key 0 0 (chain z img (segmentOf settings key)) t j e in
         let mt : List·Memᴰ t (chain z img (segmentOf settings key)) = f .1 .1 in
         let is : seekIn z img key t ≡ j = f .0 in
         let full : slotAt z img t j ≢ 0 = f .1 .0 in
@@ -117,8 +119,10 @@ module _ (z : Shape) (img : List ℕ) (sound : SoundImage z img) where
       where
         never : (x : Live) → IsLive z img x → keyOf img (x .entry) ≡ key → ⊥
         never x l k =
-            let kx : keyOf img (x .entry) ≡ keyAt z img (x .tier) (x .slot) = ap (λ (y : Live). keyOf img (y .entry)) (l .is) ∙ live-key (x .segment) (x .tier) (x .slot) in
+            let kx : keyOf img (x .entry) ≡ keyAt z img (x .tier) (x .slot) =
+            ap (λ (y : Live). keyOf img (y .entry)) (l .is) ∙ live-key (x .segment) (x .tier) (x .slot) in
             let f : search z img (keyAt z img (x .tier) (x .slot)) ≡ At (x .tier) (x .slot) =
-            lands z img (sound-image z img sound) (x .segment) (tiers-of _ (l .segmentIn)) (slots-fit _ (l .segmentIn)) (sound .entries .keysOnce _ (l .segmentIn))
+            lands z img (sound-image z img sound) (x .segment) (tiers-of _ (l .segmentIn)) (slots-fit _ (l .segmentIn))
+            (sound .entries .keysOnce _ (l .segmentIn))
             (λ u mu. sound .entries .tiersFit _ (l .segmentIn) u mu .reached) (x .tier) (l .tierIn) (x .slot) (l .slotIn) (l .full) in
             never-both (search z img key) (x .tier) (x .slot) t j (ap (search z img) (sym (sym kx ∙ k)) ∙ f) e

@@ -1,26 +1,24 @@
--- The entry that an edit takes out: where the search found it, and the image without it. Assumes nothing.
+-- The entry that an edit takes out: where the search found it, and the image without it.
 use Prim.Native.Nat.{ℕ, _+_, _≤_, _<_}
-use mathlib.Core.List.{List, List·Memᴰ}
+use mathlib.Core.List.{List}
 use mathlib.Core.Path.{_≡_, refl, ap, sym, _∙_, subst}
 use mathlib.Core.Logic.{_≢_}
-use mathlib.Core.Bool.{Bool, true, false, not}
+use mathlib.Core.Bool.{not}
 use mathlib.Core.Option.{Option, none, some}
 use native.Mathlib.Omega.{arith}
 use lib.Dec.{eqb}
 use lib.ListN.{length}
 use borrow.Author.Tests.{eq-eqb, ne-eqb}
-use Rattle.lists.specs.Quantify.{Below, Every}
 use Rattle.settings.specs.declared.Settings.{Settings}
 use Rattle.layout.specs.declared.Shape.{Shape}
 use Rattle.layout.specs.Tiers.{IsTier}
 use Rattle.layout.specs.Frame.{Framed}
-use Rattle.chains.specs.Chains.{chain}
 use Rattle.chains.proofs.Along.{chain-tiers}
 use Rattle.entries.specs.declared.Entry.{Entry}
 use Rattle.entries.specs.declared.Live.{Live}
 use Rattle.entries.specs.Keys.{KeyFits, segmentOf}
 use Rattle.entries.specs.Stored.{chunksFor, keyOf}
-use Rattle.entries.specs.Live.{slotAt, chunkOf, entryAt, liveAt, live}
+use Rattle.entries.specs.Live.{chunkOf, entryAt, liveAt}
 use Rattle.entries.proofs.LiveLists.{IsLive, live-in}
 use Rattle.entries.proofs.Whole.{entry-small}
 use Rattle.leb128.specs.Leb128.{largest}
@@ -74,7 +72,9 @@ module _ (z : Shape) (img : List ℕ) (sound : SoundImage z img) where
   unfolding liveAt
   live-range e l =
       let c : e .chunk ≡ chunkOf z img (e .tier) (e .slot) = ap (λ (x : Live). x .chunk) (l .is) in
-      let n : e .chunks ≡ chunksFor settings (entryAt z img (e .tier) (e .slot) .keyLength) (entryAt z img (e .tier) (e .slot) .valueLength) = ap (λ (x : Live). x .chunks) (l .is) in
+      let n : e .chunks
+      ≡ chunksFor settings (entryAt z img (e .tier) (e .slot) .keyLength) (entryAt z img (e .tier) (e .slot) .valueLength) =
+      ap (λ (x : Live). x .chunks) (l .is) in
       omega (arith, c, n, live-fits e l .rangeEnds)
 
   -- its record stands within the image, and its key is as long as keys are

@@ -1,16 +1,15 @@
--- The scan that counts the old entry as removed is the scan of the image without it. Assumes nothing.
-use Prim.Native.Nat.{ℕ, suc, _+_, _-_, _≤_, _<_}
+-- The scan that counts the old entry as removed is the scan of the image without it.
+use Prim.Native.Nat.{ℕ, _+_, _≤_, _<_}
 use mathlib.Core.List.{List, List·Memᴰ}
 use mathlib.Core.Path.{_≡_, refl, ap, sym, _∙_}
-use mathlib.Core.Logic.{_≢_, _⊎_, inl, inr, ⊎-elim}
-use mathlib.Core.Bool.{Bool, true, false}
+use mathlib.Core.Logic.{_≢_, inl, inr, ⊎-elim}
 use mathlib.Core.Option.{Option, none, some}
 use native.Mathlib.Omega.{arith}
 use lib.Dec.{eqb}
 use lib.ListN.{length}
 use borrow.Author.Tests.{eq-eqb}
 use Rattle.lists.specs.Cases.{same-or, lt-or}
-use Rattle.lists.specs.Quantify.{Below, Every}
+use Rattle.lists.specs.Quantify.{Every}
 use Rattle.settings.specs.declared.Settings.{Settings}
 use Rattle.layout.specs.declared.Shape.{Shape}
 use Rattle.layout.specs.Tiers.{IsTier}
@@ -60,7 +59,9 @@ module _ (z : Shape) (img : List ℕ) (sound : SoundImage z img) where
         (λ (a : i < e .chunk). sym (clear-before z img (oldOf (some e)) t i a) ∙ marked-same i (rw q (removal-mark-out z img sound e m i h (inl a))))
         (λ (a : e .chunk ≤ i).
         ⊎-elim
-        (λ (b : i < e .chunk + e .chunks). sym (clear-old z img (oldOf (some e)) t i q a b) ∙ sym (eq-eqb (mark z (removeEntry z img e) t i) 0 (rw q (removal-mark-in z img sound e m i a b))))
+        (λ (b : i < e .chunk + e .chunks).
+        sym (clear-old z img (oldOf (some e)) t i q a b)
+        ∙ sym (eq-eqb (mark z (removeEntry z img e) t i) 0 (rw q (removal-mark-in z img sound e m i a b))))
         (λ (b : e .chunk + e .chunks ≤ i). sym (clear-after z img (oldOf (some e)) t i b) ∙ marked-same i (rw q (removal-mark-out z img sound e m i h (inr b))))
         (lt-or i (e .chunk + e .chunks)))
         (lt-or i (e .chunk))
@@ -83,7 +84,8 @@ module _ (z : Shape) (img : List ℕ) (sound : SoundImage z img) where
     tiers-of = sound-tiers z img sound s (segment-lt (sound .valid) key)
 
     scan-by : (o : Option Live) → find z img key ≡ o
-        → firstRun z (fullBut z img (oldOf o)) (clearBut z img (oldOf o)) (chain z img s) n ≡ runFor z (withoutEntry z img o) (chain z (withoutEntry z img o) s) n
+        → firstRun z (fullBut z img (oldOf o)) (clearBut z img (oldOf o)) (chain z img s) n
+        ≡ runFor z (withoutEntry z img o) (chain z (withoutEntry z img o) s) n
     unfolding oldOf withoutEntry runFor
     scan-by none f =
         run-same z (fullBut z img (oldOf none)) (fullIn z img) (clearBut z img (oldOf none)) (clear z img) (chain z img s) n
@@ -91,7 +93,8 @@ module _ (z : Shape) (img : List ℕ) (sound : SoundImage z img) where
         (λ t mt i h. sym (clear-else z img (oldOf none) t i (λ (q : t ≡ 0). omega (arith, tiers-of t mt))))
     scan-by (some e) f =
         let m : List·Memᴰ e (live z img) = find-live z img key e f .0 in
-        run-same z (fullBut z img (oldOf (some e))) (fullIn z (removeEntry z img e)) (clearBut z img (oldOf (some e))) (clear z (removeEntry z img e)) (chain z img s) n
+        run-same z (fullBut z img (oldOf (some e))) (fullIn z (removeEntry z img e)) (clearBut z img (oldOf (some e)))
+        (clear z (removeEntry z img e)) (chain z img s) n
         (λ t mt. full-after e m t (tiers-of t mt))
         (λ t mt i h. clear-there e m t (tiers-of t mt) i h)
         ∙ ap (λ (ts : List ℕ). firstRun z (fullIn z (removeEntry z img e)) (clear z (removeEntry z img e)) ts n)

@@ -1,14 +1,13 @@
--- What the code of a store knows at each step, by the scan's answer. Assumes nothing.
-use Prim.Native.Nat.{ℕ, suc, _+_, _*_, _≤_, _<_}
-use mathlib.Core.List.{List, List·Memᴰ, _++_, _∷_}
-use mathlib.Core.Path.{_≡_, refl, ap, sym, _∙_, subst}
+-- What the code of a store knows at each step, by the scan's answer.
+use Prim.Native.Nat.{ℕ, _+_, _*_, _≤_, _<_}
+use mathlib.Core.List.{List, _++_}
+use mathlib.Core.Path.{_≡_, refl, ap, sym, _∙_}
 use mathlib.Core.Logic.{_≢_}
-use mathlib.Core.Bool.{Bool, true, false}
+use mathlib.Core.Bool.{true, false}
 use native.Mathlib.Omega.{arith}
-use lib.Dec.{eqb}
 use lib.ListN.{length, length-append}
 use borrow.Author.Tests.{eq-eqb, ne-eqb}
-use Rattle.lists.specs.Quantify.{Below, Every}
+use Rattle.lists.specs.Quantify.{Every}
 use Rattle.settings.specs.declared.Settings.{Settings}
 use Rattle.layout.specs.declared.Shape.{Shape}
 use Rattle.layout.specs.Tiers.{tiers, IsTier}
@@ -31,9 +30,9 @@ use Rattle.placement.specs.Placement.{placeAt}
 use Rattle.placement.proofs.Running.{run-found}
 use Rattle.joining.specs.Joining.{join}
 use Rattle.joining.proofs.Ends.{new-tier, free-cons}
-use Rattle.edit.specs.Edits.{find, without, runOf, nowhereToGo, noRoom, placeIn, storeImage}
+use Rattle.edit.specs.Edits.{find, without, runOf, noRoom, placeIn, storeImage}
 use Rattle.edit.specs.Replaced.{oldOf, withoutOld, Stores}
-use Rattle.edit.proofs.Without.{without-sound, without-head, without-chain}
+use Rattle.edit.proofs.Without.{without-sound, without-head}
 use Rattle.edit.proofs.Replacing.{sound-tiers, old-out}
 use Rattle.edit.proofs.Scanning.{scan-is}
 
@@ -43,7 +42,8 @@ unfolding segmentOf
 segment-made st key h s eh es = es ∙ ap (segmentOfHash st) eh
 
 -- an entry takes a chunk at least
-pub some-chunks : (st : Settings) (key value : List ℕ) → Valid st → KeyFits st (length key) → length value ≤ 65535 → (n : ℕ) → n ≡ chunksFor st (length key) (length value) → 0 < n
+pub some-chunks : (st : Settings) (key value : List ℕ) → Valid st → KeyFits st (length key) → length value ≤ 65535 → (n : ℕ)
+    → n ≡ chunksFor st (length key) (length value) → 0 < n
 some-chunks st key value v hk hv n e = rw e (chunks-pos st (length key) (length value) (omega (arith, hk)) (omega arith) v)
 
 -- a sound image with a free tier uses fewer than 1,024
@@ -61,7 +61,8 @@ used-few z img sound s hs ne =
 
 module _ (z : Shape) (img : List ℕ) (sound : SoundImage z img) (key value : List ℕ)
     (notTooMany : chunksFor (z .settings) (length key) (length value) ≤ z .settings .mostChunks)
-    (old : Old) (eo : old ≡ oldOf (find z img key)) (s n : ℕ) (es : s ≡ segmentOf (z .settings) key) (en : n ≡ chunksFor (z .settings) (length key) (length value))
+    (old : Old) (eo : old ≡ oldOf (find z img key)) (s n : ℕ) (es : s ≡ segmentOf (z .settings) key)
+    (en : n ≡ chunksFor (z .settings) (length key) (length value))
     (r : Run) (er : r ≡ firstRun z (fullBut z img old) (clearBut z img old) (chain z img s) n) where
   open Shape z using (settings)
   open Settings settings using (segments, chunks)
@@ -123,7 +124,8 @@ module _ (z : Shape) (img : List ℕ) (sound : SoundImage z img) (key value : Li
       pub free-stored : {w y : List ℕ} → w ≡ join z x s → y ≡ placeAt z w head 0 key value → Stores z img key value true y
       unfolding noRoom storeImage placeIn
       free-stored {w} ew ey =
-          let w-is : w ≡ join z (without z img key) (segmentOf settings key) = ew ∙ ap (λ (v : List ℕ). join z v s) x-is ∙ ap (join z (without z img key)) es in (
+          let w-is : w ≡ join z (without z img key) (segmentOf settings key) =
+          ew ∙ ap (λ (v : List ℕ). join z v s) x-is ∙ ap (join z (without z img key)) es in (
             rw (← run-is, f) (ne-eqb (freeHead z (without z img key)) 0 some-free),
             ey ∙ ap (λ (v : List ℕ). placeAt z v head 0 key value) w-is
                 ∙ ap (λ (v : ℕ). placeAt z (join z (without z img key) (segmentOf settings key)) v 0 key value) head-is ∙ rw (← run-is, f),

@@ -1,30 +1,26 @@
--- A store for which the row of 10 does not hold: the image is sound, and has the new key and record beside all other keys. Assumes nothing.
+-- A store for which the row of 10 does not hold: the image is sound, and has the new key and record beside all other keys.
 use Prim.Native.Nat.{ℕ, _+_, _≤_, _<_}
 use mathlib.Core.List.{List, List·Memᴰ}
-use mathlib.Core.Path.{_≡_, refl, ap, sym, _∙_}
+use mathlib.Core.Path.{_≡_, refl, ap, _∙_}
 use mathlib.Core.Logic.{_≢_}
-use mathlib.Core.Bool.{Bool, true, false, not}
+use mathlib.Core.Bool.{true, false, not}
 use native.Mathlib.Omega.{arith}
-use lib.Dec.{eqb}
 use lib.ListN.{length}
 use borrow.Author.Tests.{eqb-true, eqb-false}
 use Rattle.lists.specs.Lists.{those, total}
 use Rattle.words.specs.Bytes.{Bytes, same}
 use Rattle.settings.specs.declared.Settings.{Settings}
 use Rattle.layout.specs.declared.Shape.{Shape}
-use Rattle.layout.specs.Places.{mark}
 use Rattle.chains.specs.Chains.{chain, freeHead}
 use Rattle.entries.specs.Keys.{KeyFits, segmentOf}
 use Rattle.entries.specs.Stored.{chunksFor}
-use Rattle.entries.specs.Live.{fullSlots}
 use Rattle.entries.proofs.Hashes.{segment-lt}
 use Rattle.chunks.specs.Chunks.{clear}
-use Rattle.upkeep.specs.Sound.{Pair, pairsOf, SoundImage, SoundBut}
+use Rattle.upkeep.specs.Sound.{Pair, pairsOf, SoundImage}
 use Rattle.upkeep.proofs.Recounting.{sound-but}
 use Rattle.placement.specs.declared.Run.{Run}
 use Rattle.placement.specs.declared.Run.the-variants.{At, Nowhere}
-use Rattle.placement.specs.Runs.{firstRun, runFor, fullIn}
-use Rattle.placement.specs.Placement.{placeAt}
+use Rattle.placement.specs.Runs.{runFor, fullIn}
 use Rattle.placement.proofs.Running.{run-found}
 use Rattle.placement.proofs.Placing.{Places, place-sound, place-pairs}
 use Rattle.joining.specs.Joining.{join}

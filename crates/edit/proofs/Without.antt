@@ -1,27 +1,25 @@
--- The image with the key's entry removed, if there is one: sound, without the key, and with all else. Assumes nothing.
-use Prim.Native.Nat.{ℕ, _+_, _≤_, _<_}
+-- The image with the key's entry removed, if there is one: sound, without the key, and with all else.
+use Prim.Native.Nat.{ℕ, _≤_, _<_}
 use mathlib.Core.List.{List, List·Memᴰ}
 use mathlib.Core.Path.{_≡_, refl, ap, sym, _∙_}
 use mathlib.Core.Logic.{_≢_}
-use mathlib.Core.Bool.{Bool, true, false, not}
+use mathlib.Core.Bool.{true, false, not}
 use mathlib.Core.Option.{Option, none, some}
 use native.Mathlib.Omega.{arith}
-use Rattle.lists.specs.Cases.{by-test}
 use Rattle.lists.specs.Lists.{those, total}
 use Rattle.lists.proofs.Totals.{total-same, total-zero, total-at, those-total}
 use Rattle.words.specs.Bytes.{same}
-use Rattle.words.proofs.Bytes.{same-eq, same-false, same-true}
-use Rattle.settings.specs.declared.Settings.{Settings}
+use Rattle.words.proofs.Bytes.{same-eq, same-false}
 use Rattle.layout.specs.declared.Shape.{Shape}
 use Rattle.chains.specs.Chains.{chain, freeHead}
 use Rattle.entries.specs.declared.Live.{Live}
 use Rattle.entries.specs.Stored.{keyOf}
-use Rattle.entries.specs.Live.{slotAt, entryAt, liveAt, live}
+use Rattle.entries.specs.Live.{slotAt, liveAt, live}
 use Rattle.entries.proofs.LiveLists.{in-live}
 use Rattle.search.specs.Rules.{keyAt}
 use Rattle.upkeep.specs.Sound.{Pair, pairOf, pairsOf, SoundImage}
 use Rattle.upkeep.proofs.KeyCounts.{withKey, keys-once, pair-live, live-pair}
-use Rattle.removal.proofs.Removing.{removal-sound, removal-pairs, removal-chain, removal-head}
+use Rattle.removal.proofs.Removing.{removal-sound, removal-pairs, removal-head}
 use Rattle.edit.specs.Edits.{find, withoutEntry, without}
 use Rattle.edit.proofs.Finding.{find-live, find-none}
 
@@ -65,17 +63,13 @@ module _ (z : Shape) (img : List ℕ) (sound : SoundImage z img) (key : List ℕ
       let r : List·Memᴰ e (live z img) × (keyOf img (e .entry) ≡ key) = find-live z img key e f in
       omega (arith, removal-pairs z img sound e (r .0) (withKey key), with-own key (pairOf img e) (r .1), keys-once z img sound key)
 
-  entry-others : (F : Pair → ℕ) (o : Option Live) → find z img key ≡ o → total (pairsOf z (withoutEntry z img o)) (others key F) ≡ total (pairsOf z img) (others key F)
+  entry-others : (F : Pair → ℕ) (o : Option Live) → find z img key ≡ o
+      → total (pairsOf z (withoutEntry z img o)) (others key F) ≡ total (pairsOf z img) (others key F)
   unfolding withoutEntry
   entry-others F none f = refl
   entry-others F (some e) f =
       let r : List·Memᴰ e (live z img) × (keyOf img (e .entry) ≡ key) = find-live z img key e f in
       omega (arith, removal-pairs z img sound e (r .0) (others key F), others-own key F (pairOf img e) (r .1))
-
-  entry-chain : (s : ℕ) → s < z .settings .segments → (o : Option Live) → find z img key ≡ o → chain z (withoutEntry z img o) s ≡ chain z img s
-  unfolding withoutEntry
-  entry-chain s h none f = refl
-  entry-chain s h (some e) f = removal-chain z img sound e (find-live z img key e f .0) s h
 
   entry-head : (o : Option Live) → find z img key ≡ o → freeHead z (withoutEntry z img o) ≡ freeHead z img
   unfolding withoutEntry
@@ -91,10 +85,6 @@ module _ (z : Shape) (img : List ℕ) (sound : SoundImage z img) (key : List ℕ
   pub without-key : total (pairsOf z (without z img key)) (withKey key) ≡ 0
   unfolding without
   without-key = entry-key (find z img key) refl
-
-  pub without-chain : (s : ℕ) → s < z .settings .segments → chain z (without z img key) s ≡ chain z img s
-  unfolding without
-  without-chain s h = entry-chain s h (find z img key) refl
 
   pub without-head : freeHead z (without z img key) ≡ freeHead z img
   unfolding without

@@ -1,4 +1,4 @@
--- The parts of a key's hash. Assumes nothing.
+-- The parts of a key's hash.
 use Prim.Native.Nat.{ℕ, _-_, _/_, _%_, _^_, _≤_, _<_}
 use mathlib.Core.Path.{_≡_}
 use mathlib.Core.List.{List}
@@ -12,7 +12,7 @@ use Rattle.lists.specs.Cases.{by-test}
 use Rattle.settings.specs.declared.Settings.{Settings}
 use Rattle.settings.specs.Rules.{Valid}
 use Rattle.xxh64.specs.Hash.{xxh64}
-use Rattle.entries.specs.Keys.{segmentOfHash, segmentOf, lookupOfHash, lookupKey, start}
+use Rattle.entries.specs.Keys.{segmentOfHash, segmentOf, lookupOfHash, lookupKey}
 
 module _ (st : Settings) (h : ℕ) where
   open Settings st using (segments, keyBits)
@@ -49,9 +49,6 @@ module _ {st : Settings} (v : Valid st) where
   pub lookup-lt : (key : List ℕ) → lookupKey st key < 2 ^ keyBits
   unfolding lookupKey
   lookup-lt key = lookup-bounds (xxh64 key) .1
-
-  pub start-lt : (lookup : ℕ) → start st lookup < slots
-  start-lt lookup = mod-lt lookup (omega (arith, v .slots .1 .0))
 
   pub segmentOfHash-lt : (h : ℕ) → segmentOfHash st h < segments
   segmentOfHash-lt h = mod-lt h (v .segments .1 .0)

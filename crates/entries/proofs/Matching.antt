@@ -1,4 +1,4 @@
--- Bytes compared with a key's, one after the other. Assumes nothing.
+-- Bytes compared with a key's, one after the other.
 use Prim.Native.Nat.{ℕ, _+_, _≤_, _<_}
 use mathlib.Core.Path.{_≡_, ap, sym, _∙_}
 use mathlib.Core.List.{List}

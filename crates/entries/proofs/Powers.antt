@@ -1,4 +1,4 @@
--- Remainders and logarithms of powers of two, and a quotient rounded up to one. Assumes nothing.
+-- Remainders and logarithms of powers of two, and a quotient rounded up to one.
 use Prim.Native.Nat.{ℕ, suc, _+_, _-_, _/_, _%_, _^_, _≤_, _<_}
 use mathlib.Core.Path.{_≡_, ap, sym, _∙_, subst}
 use mathlib.Core.Logic.{⊎-elim}
@@ -28,7 +28,9 @@ pub log2-is : (n : ℕ) → PowerOfTwo n → (leadingZeros 64 n ≤ 63) × (n �
 log2-is n p =
     let small : n < 2 ^ 64 = omega (arith, p .1 .1, pow-mono {i = p .0} {j = 24} (omega (arith, p .1 .0))) in
     let t : (j : ℕ) × (leadingZeros 64 n + suc j ≡ 64) × (2 ^ j ≤ n) × (n < 2 ^ suc j) = leading-top 64 n (omega (arith, p .1 .1, pow-pos (p .0))) small in
-    let same : t .0 ≡ p .0 = one-power (t .0) (p .0) (subst (λ (x : ℕ). 2 ^ t .0 ≤ x) (p .1 .1) (t .2)) (subst (λ (x : ℕ). x < 2 ^ suc (t .0)) (p .1 .1) (t .3)) in
+    let same : t .0 ≡ p .0 =
+    one-power (t .0) (p .0) (subst (λ (x : ℕ). 2 ^ t .0 ≤ x) (p .1 .1) (t .2)) (subst (λ (x : ℕ). x < 2 ^ suc (t .0)) (p .1 .1) (t .3))
+    in
     let is : t .0 ≡ 63 - leadingZeros 64 n = omega (arith, t .1) in
     (omega (arith, t .1), p .1 .1 ∙ ap (λ (k : ℕ). 2 ^ k) (sym same ∙ is))
 

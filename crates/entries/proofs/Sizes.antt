@@ -1,9 +1,9 @@
--- The sizes of an entry: of its bytes, and of the chunks that they take. Assumes nothing.
-use Prim.Native.Nat.{ℕ, suc, _+_, _-_, _*_, _≤_, _<_}
-use mathlib.Core.Path.{_≡_, ap, _∙_}
+-- The sizes of an entry: of its bytes, and of the chunks that they take.
+use Prim.Native.Nat.{ℕ, _+_, _-_, _*_, _≤_, _<_}
+use mathlib.Core.Path.{_≡_}
 use mathlib.Core.List.{List}
 use native.Mathlib.Omega.{arith}
-use native.Mathlib.Nat.{div-add-mod', mod-lt, suc-mul, one-mul, le-div-iff-mul-le}
+use native.Mathlib.Nat.{div-add-mod', mod-lt, one-mul, le-div-iff-mul-le}
 use lib.ListN.{length, length-append}
 use Rattle.lists.specs.Lists.{ceil}
 use Rattle.settings.specs.declared.Settings.{Settings}
@@ -19,13 +19,6 @@ ceil-enough a b h = omega (arith, div-add-mod' (a + b - 1) b, mod-lt (a + b - 1)
 
 ceil-pos : (a b : ℕ) → 0 < a → 0 < b → 0 < ceil a b
 ceil-pos a b h k = le-div-iff-mul-le k .1 (rw one-mul (omega arith))
-
-ceil-least : (a b : ℕ) → 0 < a → 0 < b → (ceil a b - 1) * b < a
-ceil-least a b h k =
-    let q : ℕ = ceil a b in
-    let e : q ≡ suc (q - 1) = omega (arith, ceil-pos a b h k) in
-    let f : q * b ≡ (q - 1) * b + b = ap (λ (x : ℕ). x * b) e ∙ suc-mul (q - 1) b in
-    omega (arith, div-add-mod' (a + b - 1) b)
 
 -- ---- lengths that are read are small
 
@@ -44,10 +37,6 @@ module _ (st : Settings) (k v : ℕ) (hk : k ≤ largest) (hv : v ≤ largest) w
     pub chunks-enough : entrySize st k v ≤ chunksFor st k v * chunkSize
     unfolding chunksFor
     chunks-enough = ceil-enough (entrySize st k v) chunkSize (vs .chunkSize .0)
-
-    pub chunks-least : (chunksFor st k v - 1) * chunkSize < entrySize st k v
-    unfolding chunksFor
-    chunks-least = ceil-least (entrySize st k v) chunkSize (omega (arith, offset-bounds)) (vs .chunkSize .0)
 
 -- ---- its bytes
 

@@ -1,10 +1,10 @@
--- A slot's parts and the slot that has them, over every count of bits. Assumes nothing.
+-- A slot's parts and the slot that has them, over every count of bits.
 use Prim.Native.Nat.{ℕ, zero, suc, _+_, _-_, _*_, _/_, _%_, _^_, _≤_, _<_}
-use mathlib.Core.Path.{_≡_, refl, ap, _∙_}
+use mathlib.Core.Path.{_≡_, refl, ap}
 use mathlib.Core.Logic.{_≢_}
 use native.Mathlib.Omega.{arith}
-use native.Mathlib.Nat.{add-comm, one-mul, mod-eq-of-lt, mod-lt, div-eq-of-lt, div-lt-iff-lt-mul, pow-suc, lt-of-lt-of-le}
-use lib.Pow.{pow-pos, pow-mono, pow-lt, pow-add, high, low, shl-exact, shr-shr, recompose}
+use native.Mathlib.Nat.{add-comm, mod-eq-of-lt, div-eq-of-lt, pow-suc, lt-of-lt-of-le}
+use lib.Pow.{pow-mono, pow-add, high, low, shl-exact, shr-shr}
 use lib.Arith.{digits-lt}
 use lib.Bits.{bitAnd, bitOr, and-mask, mask-lt, or-shifted-r}
 use Rattle.settings.specs.declared.Settings.{Settings}
@@ -58,17 +58,3 @@ pub with-full : (st : Settings) (l c : ℕ) → l ≢ 0 → slotWith st l c ≢ 
 with-full st l c ne = omega arith
 
 -- ---- the parts of any slot
-
-pub key-lt : (st : Settings) (v : ℕ) → slotKey st v < 2 ^ st .keyBits
-key-lt st v = mod-lt v (pow-pos (st .keyBits))
-
-pub chunk-lt : (st : Settings) (v : ℕ) → slotChunk st v < 2 ^ st .chunkBits
-chunk-lt st v = mod-lt (v / 2 ^ st .keyBits) (pow-pos (st .chunkBits))
-
--- a slot with nothing above its parts is what they make
-pub with-parts : (st : Settings) (v : ℕ) → slotRest st v ≡ 0 → slotWith st (slotKey st v) (slotChunk st v) ≡ v
-with-parts st v h =
-    let total : v / 2 ^ (st .keyBits + st .chunkBits) < 1 = omega arith in
-    let lt : v < 1 * 2 ^ (st .keyBits + st .chunkBits) = div-lt-iff-lt-mul (pow-pos (st .keyBits + st .chunkBits)) .0 total in
-    let lt′ : v < 2 ^ (st .chunkBits + st .keyBits) = rw (one-mul, add-comm) at lt in
-    add-comm (slotKey st v) (slotChunk st v * 2 ^ st .keyBits) ∙ recompose (st .chunkBits) (st .keyBits) lt′

@@ -1,4 +1,4 @@
--- What stands at a chunk: where an entry is whole, and what of the image that depends on. Assumes nothing.
+-- What stands at a chunk: where an entry is whole, and what of the image that depends on.
 use Prim.Native.Nat.{ℕ, _+_, _-_, _*_, _^_, _≤_, _<_}
 use mathlib.Core.Path.{_≡_, refl, ap, sym, _∙_}
 use mathlib.Core.List.{List, _++_}
@@ -33,7 +33,8 @@ use Rattle.words.proofs.Cuts.{drop-take, cut-take, cut-within, cut-front, cut-b
 abbrev Read : Decoded → ℕ → ℕ → Type 0
 Read d n next = d ≡ Number n next
 
-value-read : (at k : ℕ) (d : Decoded) (e : Entry) → afterValueLength at k d ≡ Whole e → (e .keyAt ≡ at) × (e .keyLength ≡ k) × Read d (e .valueLength) (e .valueAt)
+value-read : (at k : ℕ) (d : Decoded) (e : Entry) → afterValueLength at k d ≡ Whole e
+    → (e .keyAt ≡ at) × (e .keyLength ≡ k) × Read d (e .valueLength) (e .valueAt)
 unfolding afterValueLength
 value-read at k Refused e h = absurd (let z : _≡_ {A = ℕ} 0 1 = cc in omega arith)
 value-read at k (Number v next) e h =
@@ -45,7 +46,8 @@ key-read : (bytes : List ℕ) (d : Decoded) (e : Entry) → afterKeyLength bytes
 unfolding afterKeyLength
 key-read bytes Refused e h = absurd (let z : _≡_ {A = ℕ} 0 1 = cc in omega arith)
 key-read bytes (Number k next) e h =
-    let p : (e .keyAt ≡ next) × (e .keyLength ≡ k) × Read (decode bytes (next + k)) (e .valueLength) (e .valueAt) = value-read next k (decode bytes (next + k)) e h in
+    let p : (e .keyAt ≡ next) × (e .keyLength ≡ k) × Read (decode bytes (next + k)) (e .valueLength) (e .valueAt) =
+    value-read next k (decode bytes (next + k)) e h in
     (cc, rw (p .0, p .1) (p .2))
 
 -- read by offsets that were computed
@@ -79,7 +81,8 @@ module _ (z : Shape) (img : List ℕ) (t c : ℕ) where
 
   pub stored-past : chunks ≤ c → stored z img t c ≡ Broken
   stored-past h =
-      key-refused (decode-end (upToChunks z img t) (chunkAt z t c) (omega (arith, up-length, chunk-at z t c, chunk-at z t chunks, mul-le-mul-right chunkSize h)))
+      key-refused (decode-end (upToChunks z img t) (chunkAt z t c)
+      (omega (arith, up-length, chunk-at z t c, chunk-at z t chunks, mul-le-mul-right chunkSize h)))
 
   -- ---- a whole entry: its lengths stand in their shortest forms, within the chunks
 
@@ -107,7 +110,8 @@ module _ (z : Shape) (img : List ℕ) (t c : ℕ) where
   pub whole-sound : (e : Entry) → stored z img t c ≡ Whole e → WholeAt e
   unfolding stored valueOffset
   whole-sound e h =
-      let p : Read (decode (upToChunks z img t) (chunkAt z t c)) (e .keyLength) (e .keyAt) × Read (decode (upToChunks z img t) (e .keyAt + e .keyLength)) (e .valueLength) (e .valueAt) =
+      let p : Read (decode (upToChunks z img t) (chunkAt z t c)) (e .keyLength) (e .keyAt)
+      × Read (decode (upToChunks z img t) (e .keyAt + e .keyLength)) (e .valueLength) (e .valueAt) =
       key-read (upToChunks z img t) (decode (upToChunks z img t) (chunkAt z t c)) e h in
       let k : Stands (upToChunks z img t) (chunkAt z t c) (e .keyLength) (e .keyAt) = decode-sound _ _ _ _ (p .0) in
       let v : Stands (upToChunks z img t) (e .keyAt + e .keyLength) (e .valueLength) (e .valueAt) = decode-sound _ _ _ _ (p .1) in

@@ -1,7 +1,7 @@
 -- Live entries: a full slot in a chained tier has one.
 use Prim.Native.Nat.{ℕ}
 use mathlib.Core.List.{List, map, flatMap}
-use mathlib.Core.Bool.{Bool, not}
+use mathlib.Core.Bool.{not}
 use lib.Dec.{eqb}
 use Rattle.lists.specs.Lists.{below, those}
 use Rattle.settings.specs.declared.Settings.{Settings}

@@ -1,4 +1,4 @@
--- What the check accepts: exactly the images in which every stage fits. Assumes nothing.
+-- What the check accepts: exactly the images in which every stage fits.
 use Prim.Native.Nat.{ℕ}
 use mathlib.Core.List.{List}
 use mathlib.Core.Path.{_≡_, refl, sym, _∙_, ap}
@@ -20,7 +20,6 @@ use Rattle.search.specs.Rules.{EntriesFit, entriesFit?}
 use Rattle.chunks.specs.Chunks.{ChunksFit, chunksFit?}
 use Rattle.image.specs.declared.Stage.{Stage}
 use Rattle.image.specs.declared.Counts.{Counts}
-use Rattle.image.specs.declared.Examined.{Examined}
 use Rattle.image.specs.declared.Examined.the-variants.{Ready, Refused}
 use Rattle.image.specs.Check.{countsOf, afterChunks, afterEntries, afterChains, afterFrame, afterBlock, examine}
 use Rattle.image.proofs.Stages.{frame-yes, chains-yes, entries-yes, chunks-yes}

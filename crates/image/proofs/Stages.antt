@@ -1,4 +1,4 @@
--- The stages one after the other, as the code asks them. Assumes nothing.
+-- The stages one after the other, as the code asks them.
 use Prim.Native.Nat.{ℕ}
 use mathlib.Core.List.{List}
 use mathlib.Core.Path.{_≡_, refl, ap, sym, _∙_}
@@ -88,7 +88,9 @@ module _ (st : Settings) (img : List ℕ) where
     chains-refused c =
         sym
         (chains-no z img (chainsFit? z img)
-        (λ f. let g : chains.Fit (length (chained z img)) (length (freeChain z img)) ≡ chains.Broken = sym (chains-fit z img f) ∙ c in let q : _≡_ {A = ℕ} 0 1 = cc in omega arith))
+        (λ f.
+        let g : chains.Fit (length (chained z img)) (length (freeChain z img)) ≡ chains.Broken = sym (chains-fit z img f) ∙ c in
+        let q : _≡_ {A = ℕ} 0 1 = cc in omega arith))
         ∙ at-chains
 
     module _ (m n : ℕ) (c : chainsOf z img ≡ chains.Fit m n) where

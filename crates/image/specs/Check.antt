@@ -1,9 +1,7 @@
 -- The check: the lowest stage that is broken, or the counts. Each stage is asked over the whole image before the next.
 use Prim.Native.Nat.{ℕ}
 use mathlib.Core.List.{List, [], _∷_}
-use mathlib.Core.Path.{_≡_}
 use lib.ListN.{length}
-use Rattle.settings.specs.declared.Settings.{Settings}
 use Rattle.settings.specs.declared.Parsed.{Parsed}
 use Rattle.settings.specs.declared.Parsed.the-variants.{Accepted as parsed, BadBlock, BadField}
 use Rattle.settings.specs.Block.{parse}

@@ -1,13 +1,12 @@
--- A list made of parts, one of which has become longer by one: what counts or adds up its members. Assumes nothing.
+-- A list made of parts, one of which has become longer by one: what counts or adds up its members.
 use Prim.Native.Nat.{ℕ, zero, suc, _+_, _<_}
-use mathlib.Core.List.{List, [], _∷_, _++_, flatMap, List·Memᴰ}
-use mathlib.Core.Path.{_≡_, refl, ap, sym, _∙_, subst}
+use mathlib.Core.List.{List, [], _∷_, _++_, flatMap}
+use mathlib.Core.Path.{_≡_, ap, sym, _∙_}
 use mathlib.Core.Logic.{⊎-elim, _≢_}
 use native.Mathlib.Omega.{arith}
 use native.Mathlib.Numerals.{add-one}
-use lib.Dec.{eqb}
 use Rattle.lists.specs.Cases.{same-or}
-use Rattle.lists.specs.Lists.{span, below, those, howMany}
+use Rattle.lists.specs.Lists.{below}
 use Rattle.lists.specs.Quantify.{Below}
 use Rattle.lists.proofs.Lists.{flatMap-below, span-in}
 use Rattle.lists.proofs.SameLists.{same-flatMap}

@@ -1,5 +1,5 @@
--- The chains after a free tier joined the end of one: that one is longer by the tier, the free chain is shorter, the others are as they were. Assumes nothing.
-use Prim.Native.Nat.{ℕ, suc, _+_, _-_, _*_, _<_}
+-- The chains after a free tier joined the end of one: that one is longer by the tier, the free chain is shorter, the others are as they were.
+use Prim.Native.Nat.{ℕ, suc, _-_, _*_, _<_}
 use mathlib.Core.List.{List, [], _∷_, _++_, List·Memᴰ, List·Memᴰ·tail}
 use mathlib.Core.Path.{_≡_, refl, ap, sym, _∙_, subst}
 use mathlib.Core.Logic.{_≢_}
@@ -9,7 +9,6 @@ use lib.ListN.{length}
 use Rattle.lists.specs.Lists.{howMany}
 use Rattle.lists.specs.Quantify.{Every}
 use Rattle.lists.proofs.Lists.{in-span, howMany-append, howMany-same}
-use Rattle.settings.specs.declared.Settings.{Settings}
 use Rattle.layout.specs.declared.Shape.{Shape}
 use Rattle.layout.specs.Tiers.{tiers, IsExtra}
 use Rattle.chains.specs.Chains.{nextOf, follow, endOf, chain, freeHead, freeChain, chainedExtra, extraTiers, ChainsFit}
@@ -78,7 +77,8 @@ module _ (z : Shape) (img : List ℕ) (s : ℕ) (hs : s < z .settings .segments)
     longer u m =
         record {
           inner = λ (k : nextOf z img u ≢ 0).
-              j .nextOther u (chain-in-tiers z img fits s u hs m) (λ e. k (ap (nextOf z img) e ∙ last-next z img s hs fits)) (not-new z img s hs fits ne s u hs m);
+              j .nextOther u (chain-in-tiers z img fits s u hs m) (λ e. k (ap (nextOf z img) e ∙ last-next z img s hs fits))
+              (not-new z img s hs fits ne s u hs m);
           last = λ k. ap (nextOf z img′) (is-last z img s hs fits u m k) ∙ j .nextLast;
         }
 
@@ -87,7 +87,8 @@ module _ (z : Shape) (img : List ℕ) (s : ℕ) (hs : s < z .settings .segments)
     longer-follow =
         let w : (follow z img (tiers z - 1) (suc s) ≡ follow z img (tiers z) (suc s)) × (endOf z img (tiers z - 1) (suc s) ≡ 0) =
         enough z img (tiers z) (tiers z - 1) (suc s) (fits .segmentsFit s hs .ends) (omega (arith, chain-short z img fits s hs ne)) in
-        let r : (follow z img′ (suc (tiers z - 1)) (suc s) ≡ follow z img (tiers z - 1) (suc s) ++ (freeHead z img ∷ [])) × (endOf z img′ (suc (tiers z - 1)) (suc s) ≡ 0) =
+        let r : (follow z img′ (suc (tiers z - 1)) (suc s) ≡ follow z img (tiers z - 1) (suc s) ++ (freeHead z img ∷ []))
+        × (endOf z img′ (suc (tiers z - 1)) (suc s) ≡ 0) =
         follow-longer z img img′ (freeHead z img) ne (j .nextNew) (tiers z - 1) (suc s) (omega arith) (w .1) (rw (w .0) longer) in (
           ap (λ (n : ℕ). follow z img′ n (suc s)) (some-tiers z img s hs fits ne) ∙ r .0 ∙ ap (λ (q : List ℕ). q ++ (freeHead z img ∷ [])) (w .0),
           ap (λ (n : ℕ). endOf z img′ n (suc s)) (some-tiers z img s hs fits ne) ∙ r .1,

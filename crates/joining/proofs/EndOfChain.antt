@@ -1,4 +1,4 @@
--- The loop to the end of a segment's chain: the last tier met and the tiers left have the chain's last tier and its length. Assumes nothing.
+-- The loop to the end of a segment's chain: the last tier met and the tiers left have the chain's last tier and its length.
 use Prim.Native.Nat.{ℕ, suc, _+_, _-_, _≤_, _<_}
 use mathlib.Core.List.{List, [], _∷_}
 use mathlib.Core.Path.{_≡_, refl, sym, _∙_, ap}

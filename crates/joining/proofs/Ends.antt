@@ -1,4 +1,4 @@
--- The last tier of a chain and the first of the free chain, and that joining does what its writes say. Assumes nothing.
+-- The last tier of a chain and the first of the free chain, and that joining does what its writes say.
 use Prim.Native.Nat.{ℕ, suc, _-_, _≤_, _<_}
 use mathlib.Core.List.{List, _∷_, List·Memᴰ, List·Memᴰ·head, List·Memᴰ·tail}
 use mathlib.Core.Path.{_≡_, refl, ap, sym, _∙_}
@@ -8,14 +8,13 @@ use lib.ListN.{length, getD, length-append}
 use Rattle.lists.specs.Cases.{same-or}
 use Rattle.lists.specs.Quantify.{Every}
 use Rattle.lists.proofs.Lists.{member}
-use Rattle.settings.specs.declared.Settings.{Settings}
 use Rattle.layout.specs.declared.Shape.{Shape}
 use Rattle.layout.specs.Tiers.{tiers, IsTier, IsExtra}
 use Rattle.layout.specs.Places.{get, global, usedTiers}
 use Rattle.layout.specs.Frame.{Image}
 use Rattle.chains.specs.Chains.{nextOf, follow, endOf, chain, freeHead, freeChain, chainedExtra, ChainsFit}
 use Rattle.chains.proofs.Follow.{follow-more, end-more, length-follow, follow-first}
-use Rattle.chains.proofs.Segments.{segments-le, chain-cons}
+use Rattle.chains.proofs.Segments.{segments-le}
 use Rattle.joining.specs.Joining.{lastTier, join}
 use Rattle.upkeep.proofs.Chained.{free-not-chained, chain-in-tiers}
 use Rattle.upkeep.proofs.Counts.{extras-number}

@@ -1,4 +1,4 @@
--- After a free tier joined the end of a chain the chains fit. Assumes nothing.
+-- After a free tier joined the end of a chain the chains fit.
 use Prim.Native.Nat.{ℕ, _+_, _-_, _<_}
 use mathlib.Core.List.{List, [], _∷_, _++_, List·Memᴰ, List·Memᴰ·append-cases, List·Memᴰ·eq-of-singleton}
 use mathlib.Core.Path.{_≡_, refl, ap, sym, _∙_, subst, subst₂}
@@ -11,7 +11,6 @@ use Rattle.lists.specs.Cases.{same-or}
 use Rattle.lists.specs.Lists.{howMany}
 use Rattle.lists.specs.Quantify.{Below, Every}
 use Rattle.lists.proofs.Lists.{howMany-append, member}
-use Rattle.settings.specs.declared.Settings.{Settings}
 use Rattle.layout.specs.declared.Shape.{Shape}
 use Rattle.layout.specs.Tiers.{IsTier, IsExtra}
 use Rattle.layout.specs.Places.{previous, segment, order}
@@ -66,7 +65,8 @@ module _ (z : Shape) (img : List ℕ) (s : ℕ) (hs : s < z .settings .segments)
   stood q i hq h =
       let u : ℕ = getD (chain z img q) i 0 in
       let m : List·Memᴰ u (chain z img q) = member (chain z img q) i h in
-      stands-same q i u (getD (0 ∷ chain z img q) i 0) (chain-in-tiers z img fits q u hq m) (not-new z img s hs fits ne q u hq m) (fits .segmentsFit q hq .standing i h)
+      stands-same q i u (getD (0 ∷ chain z img q) i 0) (chain-in-tiers z img fits q u hq m) (not-new z img s hs fits ne q u hq m)
+      (fits .segmentsFit q hq .standing i h)
 
   stands-new : Below (length (chain z img s ++ (freeHead z img ∷ [])))
       (λ i. StandsAt z img′ s i (getD (chain z img s ++ (freeHead z img ∷ [])) i 0) (getD (0 ∷ (chain z img s ++ (freeHead z img ∷ []))) i 0))

@@ -1,5 +1,5 @@
--- Following the links with more to follow than needed, in an image whose links agree, and where one more tier was linked at the end. Assumes nothing.
-use Prim.Native.Nat.{ℕ, zero, suc, _+_, _-_, _≤_, _<_}
+-- Following the links with more to follow than needed, in an image whose links agree, and where one more tier was linked at the end.
+use Prim.Native.Nat.{ℕ, zero, suc, _-_, _≤_, _<_}
 use mathlib.Core.List.{List, [], _∷_, _++_, List·Memᴰ, List·Memᴰ·head, List·Memᴰ·tail, List·Memᴰ·cases-cons, List·Memᴰ·not-nil}
 use mathlib.Core.Path.{_≡_, refl, ap, sym, _∙_}
 use mathlib.Core.Logic.{⊎-elim, _≢_}
@@ -63,7 +63,9 @@ module _ (z : Shape) (img : List ℕ) where
       rw (follow-more z img n x ne)
       (⊎-elim
       (λ (q : nextOf z img x ≡ 0). rw (q, follow-none z img n) q)
-      (λ (q : nextOf z img x ≢ 0). ap (nextOf z img) (last-cons x (follow z img n (nextOf z img x)) (follow-long n (nextOf z img x) q f)) ∙ last-ends n (nextOf z img x) q f)
+      (λ (q : nextOf z img x ≢ 0).
+      ap (nextOf z img) (last-cons x (follow z img n (nextOf z img x)) (follow-long n (nextOf z img x) q f))
+      ∙ last-ends n (nextOf z img x) q f)
       (same-or (nextOf z img x) 0))
 
   pub ends-last : (n x u : ℕ) → List·Memᴰ u (follow z img n x) → nextOf z img u ≡ 0 → u ≡ lastOf (follow z img n x)
@@ -104,7 +106,8 @@ module _ (z : Shape) (img img′ : List ℕ) where
         let w : Longer t x = g x (List·Memᴰ·head refl) in
         ⊎-elim
         (λ (q : nextOf z img x ≡ 0).
-        let d : follow z img (suc n) x ≡ x ∷ [] = follow-more z img n x ne ∙ ap (λ (y : ℕ). x ∷ follow z img n y) q ∙ ap (λ (r : List ℕ). x ∷ r) (follow-none z img n) in (
+        let d : follow z img (suc n) x ≡ x ∷ [] =
+        follow-more z img n x ne ∙ ap (λ (y : ℕ). x ∷ follow z img n y) q ∙ ap (λ (r : List ℕ). x ∷ r) (follow-none z img n) in (
           follow-more z img′ (suc n) x ne ∙ ap (λ (y : ℕ). x ∷ follow z img′ (suc n) y) (w .last q) ∙ ap (λ (r : List ℕ). x ∷ r) (follow-one n .0)
               ∙ sym (ap (λ (r : List ℕ). r ++ (t ∷ [])) d),
           end-more z img′ (suc n) x ne ∙ ap (endOf z img′ (suc n)) (w .last q) ∙ follow-one n .1,

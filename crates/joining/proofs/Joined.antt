@@ -1,5 +1,5 @@
--- The first free tier joined a segment's chain: the image is sound but for the tier's two counters, and it holds what it held. Assumes nothing.
-use Prim.Native.Nat.{ℕ, _+_, _<_}
+-- The first free tier joined a segment's chain: the image is sound but for the tier's two counters, and it holds what it held.
+use Prim.Native.Nat.{ℕ, _<_}
 use mathlib.Core.List.{List, [], _∷_, _++_, List·Memᴰ, List·Memᴰ·head, Memᴰ·append-right}
 use mathlib.Core.Path.{_≡_, refl, ap, sym, _∙_}
 use mathlib.Core.Logic.{⊎-elim, _≢_}
@@ -7,7 +7,6 @@ use native.Mathlib.Omega.{arith}
 use lib.ListN.{length}
 use Rattle.lists.specs.Lists.{howMany, total}
 use Rattle.lists.specs.Quantify.{Below, Every}
-use Rattle.settings.specs.declared.Settings.{Settings}
 use Rattle.layout.specs.declared.Shape.{Shape}
 use Rattle.layout.specs.Tiers.{IsExtra}
 use Rattle.layout.specs.Places.{bulkCount, headersOffset, storeSize, get, mark, countPlace, lowPlace}
@@ -47,7 +46,8 @@ module _ (z : Shape) (img : List ℕ) (s : ℕ) (hs : s < z .settings .segments)
           keysOnce = keys-again;
         }
 
-    marks-again : Below (z .settings .segments) (λ q. Every (chain z img′ q) (λ u. Below (z .settings .chunks) (λ i. howMany (liveIn z img′ q u) (covers i) ≡ mark z img′ u i)))
+    marks-again : Below (z .settings .segments)
+        (λ q. Every (chain z img′ q) (λ u. Below (z .settings .chunks) (λ i. howMany (liveIn z img′ q u) (covers i) ≡ mark z img′ u i)))
     marks-again q hq u m i hi =
         ⊎-elim
         (λ k.
@@ -83,7 +83,10 @@ module _ (z : Shape) (img : List ℕ) (s : ℕ) (hs : s < z .settings .segments)
         record {
           bytes = j .image .bytes;
           valid = sound .valid;
-          shape = shape-same z img img′ (j .globals headersOffset (omega arith) (omega arith)) (j .globals bulkCount (omega arith) (omega arith)) ∙ sound .shape;
+          shape =
+              shape-same z img img′ (j .globals headersOffset (omega arith) (omega arith))
+              (j .globals bulkCount (omega arith) (omega arith))
+              ∙ sound .shape;
           frame = fits-same z img img′ (j .long) (j .globals storeSize (omega arith) (omega arith)) (sound .frame);
           chains = chains-again z img s hs (sound .chains) ne img′ j;
           entries = entries-again;

@@ -1,4 +1,4 @@
--- What the seven writes that let tier t join after tier l leave as it was. Assumes nothing.
+-- What the seven writes that let tier t join after tier l leave as it was.
 use Prim.Native.Nat.{ℕ, _-_, _/_, _<_}
 use mathlib.Core.List.{List, [], _∷_}
 use mathlib.Core.Path.{_≡_, sym}
@@ -6,7 +6,6 @@ use mathlib.Core.Logic.{⊎-elim, _≢_}
 use native.Mathlib.Omega.{arith}
 use lib.Dec.{lit<}
 use Rattle.lists.specs.Quantify.{every-cons, every-none}
-use Rattle.settings.specs.declared.Settings.{Settings}
 use Rattle.layout.specs.declared.Shape.{Shape}
 use Rattle.layout.specs.Tiers.{IsTier}
 use Rattle.layout.specs.Places.{Header, Counter, nextTier, next, previous, segment, order, Global, bulkCount, firstFree, usedTiers, headersOffset, storeSize}
@@ -101,7 +100,8 @@ module _ {z : Shape} {img : List ℕ} (im : Image z img) (s t l a b n : ℕ) (it
         place = λ e. let same : u ≡ t = cc in nt same;
       })
 
-  pub shared-kept : (f : Header) (g : Counter) → (headerNo f < 2) × (counterNo g ≢ 0) × (counterNo g ≢ 1) × (counterNo g ≢ 3) × (counterNo g ≢ 4) → (u : ℕ) → IsTier z u
+  pub shared-kept : (f : Header) (g : Counter)
+      → (headerNo f < 2) × (counterNo g ≢ 0) × (counterNo g ≢ 1) × (counterNo g ≢ 3) × (counterNo g ≢ 4) → (u : ℕ) → IsTier z u
       → get z after (sharedPlace z f g u) ≡ get z img (sharedPlace z f g u)
   shared-kept f g k u iu =
       kept (sharedPlace z f g u) (shared-in z f g u iu)

@@ -1,4 +1,4 @@
--- The seven writes of `join`, one after the other. Assumes nothing.
+-- The seven writes of `join`, one after the other.
 use Prim.Native.Nat.{ℕ, suc, _+_}
 use mathlib.Core.List.{List}
 use mathlib.Core.Path.{_≡_, subst, sym, ap, _∙_}

@@ -1,5 +1,5 @@
--- The tiers after a free tier joined the end of a chain: it has no full slot, the others hold what they held. Assumes nothing.
-use Prim.Native.Nat.{ℕ, zero, suc, _+_, _≤_, _<_}
+-- The tiers after a free tier joined the end of a chain: it has no full slot, the others hold what they held.
+use Prim.Native.Nat.{ℕ, zero, suc, _≤_, _<_}
 use mathlib.Core.List.{List, [], _∷_, _++_, List·Memᴰ, List·Memᴰ·append-cases, List·Memᴰ·eq-of-singleton}
 use mathlib.Core.Path.{_≡_, refl, ap, _∙_}
 use mathlib.Core.Logic.{_⊎_, inl, inr, ⊎-elim, _≢_}
@@ -9,7 +9,6 @@ use Rattle.lists.specs.Cases.{same-or}
 use Rattle.lists.specs.Lists.{those, howMany, total}
 use Rattle.lists.specs.Quantify.{Below, Every}
 use Rattle.lists.proofs.Lists.{total-append}
-use Rattle.settings.specs.declared.Settings.{Settings}
 use Rattle.layout.specs.declared.Shape.{Shape}
 use Rattle.layout.specs.Places.{mark}
 use Rattle.chains.specs.Chains.{chain, chained, freeHead}
@@ -73,7 +72,11 @@ module _ (z : Shape) (img : List ℕ) (s : ℕ) (hs : s < z .settings .segments)
   pub new-fits : (q : ℕ) → TierFits z img′ q (freeHead z img)
   new-fits q =
       record {
-        slotsFit = record { someEmpty = (0, (omega (arith, sound .valid .slots .1 .0), new-slots 0 (omega (arith, sound .valid .slots .1 .0)))); full = λ k h f. absurd (f (new-slots k h)) };
+        slotsFit =
+            record {
+              someEmpty = (0, (omega (arith, sound .valid .slots .1 .0), new-slots 0 (omega (arith, sound .valid .slots .1 .0))));
+              full = λ k h f. absurd (f (new-slots k h));
+            };
         reached = λ k h f. absurd (f (new-slots k h));
       }
 
@@ -97,13 +100,15 @@ module _ (z : Shape) (img : List ℕ) (s : ℕ) (hs : s < z .settings .segments)
     pub full : slotAt z img u k ≢ 0
     pub key : keyAt z img′ u k ≡ keyAt z img u k
 
-  pub full-before : (q : ℕ) → q < z .settings .segments → (u : ℕ) → List·Memᴰ u (chain z img′ q) → (k : ℕ) → k < z .settings .slots → slotAt z img′ u k ≢ 0 → Before q u k
+  pub full-before : (q : ℕ) → q < z .settings .segments → (u : ℕ) → List·Memᴰ u (chain z img′ q) → (k : ℕ) → k < z .settings .slots
+      → slotAt z img′ u k ≢ 0 → Before q u k
   full-before q hq u m k hk f =
       ⊎-elim
       (λ (o : List·Memᴰ u (chain z img q)).
       let e : slotAt z img′ u k ≡ slotAt z img u k = old-tier q hq u o .slots k hk in
       let g : slotAt z img u k ≢ 0 = λ d. f (e ∙ d) in
-      let w : Moved z img img′ q u k k = entry-moves z img img′ u (old-tier q hq u o .bytes) q k k e (sound .entries .tiersFit q hq u o .slotsFit .full k hk g) in
+      let w : Moved z img img′ q u k k =
+      entry-moves z img img′ u (old-tier q hq u o .bytes) q k k e (sound .entries .tiersFit q hq u o .slotsFit .full k hk g) in
       record { within = o; full = g; key = w .key })
       (λ (e : u ≡ freeHead z img). absurd (f (rw e (new-slots k hk))))
       (in-chain q hq u m)

@@ -1,12 +1,11 @@
--- What the seven writes that let tier t join after tier l set, and all that they do. Assumes nothing.
-use Prim.Native.Nat.{ℕ, suc, _+_, _-_, _^_, _<_}
+-- What the seven writes that let tier t join after tier l set, and all that they do.
+use Prim.Native.Nat.{ℕ, suc, _^_, _<_}
 use mathlib.Core.List.{List, [], _∷_, _++_}
 use mathlib.Core.Path.{_≡_, refl, ap, sym, _∙_}
 use mathlib.Core.Logic.{⊎-elim, _≢_}
 use native.Mathlib.Omega.{arith}
 use lib.ListN.{length}
 use Rattle.lists.specs.Quantify.{Every, every-cons, every-none}
-use Rattle.settings.specs.declared.Settings.{Settings}
 use Rattle.layout.specs.declared.Shape.{Shape}
 use Rattle.layout.specs.Tiers.{IsTier}
 use Rattle.layout.specs.Places.{Counter, entryCount, lowestFree, nextTier, next, previous, low, segment, order, count, Global, firstFree, usedTiers}
@@ -86,41 +85,50 @@ module _ {z : Shape} {img : List ℕ} (im : Image z img) (s t l a b n : ℕ) (it
 
     new-set : get z after (nextPlace z t) ≡ 0
     new-set =
-        get-puts-here im (nextPlace z l ≔ t ∷ global firstFree ≔ a ∷ global usedTiers ≔ b ∷ []) (nextPlace z t) 0 _ (shared-in z nextTier next t it) (rw (next-wide t) (omega arith))
-        (from-counters (nextPlace z t) (next-kind t 10 (omega arith) (omega arith)) (next-kind t 12 (omega arith) (omega arith)) (next-kind t 13 (omega arith) (omega arith)))
+        get-puts-here im (nextPlace z l ≔ t ∷ global firstFree ≔ a ∷ global usedTiers ≔ b ∷ []) (nextPlace z t) 0 _
+        (shared-in z nextTier next t it) (rw (next-wide t) (omega arith))
+        (from-counters (nextPlace z t) (next-kind t 10 (omega arith) (omega arith)) (next-kind t 12 (omega arith) (omega arith))
+        (next-kind t 13 (omega arith) (omega arith)))
 
     head-set : get z after (global firstFree) ≡ a
     unfolding wide
     head-set =
         get-puts-here im (nextPlace z l ≔ t ∷ []) (global firstFree) a _ tt fa
         (spare (global firstFree) (global usedTiers) b _ tt (by-kind (omega arith))
-        (from-new (global firstFree) (omega arith) (omega arith) (omega arith) (λ e. shared-never z nextTier next t (global firstFree) (omega arith) (omega arith) (sym e))))
+        (from-new (global firstFree) (omega arith) (omega arith) (omega arith)
+        (λ e. shared-never z nextTier next t (global firstFree) (omega arith) (omega arith) (sym e))))
 
     used-set : get z after (global usedTiers) ≡ b
     unfolding wide
     used-set =
         get-puts-here im (nextPlace z l ≔ t ∷ global firstFree ≔ a ∷ []) (global usedTiers) b _ tt fb
-        (from-new (global usedTiers) (omega arith) (omega arith) (omega arith) (λ e. shared-never z nextTier next t (global usedTiers) (omega arith) (omega arith) (sym e)))
+        (from-new (global usedTiers) (omega arith) (omega arith) (omega arith)
+        (λ e. shared-never z nextTier next t (global usedTiers) (omega arith) (omega arith) (sym e)))
 
     previous-set : get z after (tier t (counter previous)) ≡ l
     unfolding wide partWide
     previous-set =
         let p : Place = tier t (counter previous) in
         get-puts-here im (nextPlace z l ≔ t ∷ global firstFree ≔ a ∷ global usedTiers ≔ b ∷ nextPlace z t ≔ 0 ∷ []) p l _ (it, tt) fl
-        (spare p (tier t (counter segment)) s _ (it, tt) (by-kind (omega arith)) (spare p (tier t (counter order)) n _ (it, tt) (by-kind (omega arith)) (spare-none p)))
+        (spare p (tier t (counter segment)) s _ (it, tt) (by-kind (omega arith))
+        (spare p (tier t (counter order)) n _ (it, tt) (by-kind (omega arith)) (spare-none p)))
 
     segment-set : get z after (tier t (counter segment)) ≡ s
     unfolding wide partWide
     segment-set =
         let p : Place = tier t (counter segment) in
-        get-puts-here im (nextPlace z l ≔ t ∷ global firstFree ≔ a ∷ global usedTiers ≔ b ∷ nextPlace z t ≔ 0 ∷ tier t (counter previous) ≔ l ∷ []) p s _ (it, tt) fs
+        get-puts-here im
+        (nextPlace z l ≔ t ∷ global firstFree ≔ a ∷ global usedTiers ≔ b ∷ nextPlace z t ≔ 0 ∷ tier t (counter previous) ≔ l ∷ []) p s _
+        (it, tt) fs
         (spare p (tier t (counter order)) n _ (it, tt) (by-kind (omega arith)) (spare-none p))
 
     order-set : get z after (tier t (counter order)) ≡ n
     unfolding wide partWide
     order-set =
         let p : Place = tier t (counter order) in
-        get-puts-here im (nextPlace z l ≔ t ∷ global firstFree ≔ a ∷ global usedTiers ≔ b ∷ nextPlace z t ≔ 0 ∷ tier t (counter previous) ≔ l ∷ tier t (counter segment) ≔ s ∷ [])
+        get-puts-here im
+        (nextPlace z l ≔ t ∷ global firstFree ≔ a ∷ global usedTiers ≔ b ∷ nextPlace z t ≔ 0 ∷ tier t (counter previous) ≔ l ∷ tier t
+        (counter segment) ≔ s ∷ [])
         p n _ (it, tt) fn (spare-none p)
 
     pub joins : Joins z img after s t l n
@@ -138,6 +146,10 @@ module _ {z : Shape} {img : List ℕ} (im : Image z img) (s t l a b n : ℕ) (it
           orderNew = order-set;
           counters = counter-kept im s t l a b n it il;
           sameTiers = same-tiers im s t l a b n it il;
-          counts = λ u iu. (shared-kept im s t l a b n it il entryCount count (omega arith) u iu, shared-kept im s t l a b n it il lowestFree low (omega arith) u iu);
+          counts =
+              λ u iu. (
+                shared-kept im s t l a b n it il entryCount count (omega arith) u iu,
+                shared-kept im s t l a b n it il lowestFree low (omega arith) u iu,
+              );
           globals = global-kept im s t l a b n it il;
         }

@@ -1,15 +1,14 @@
--- Two different places have no byte in common, and every place lies within the store. Assumes nothing.
+-- Two different places have no byte in common, and every place lies within the store.
 use Prim.Native.Nat.{ℕ, zero, suc, _+_, _*_, _≤_, _<_}
 use mathlib.Core.List.{List, [], _∷_}
 use mathlib.Core.Path.{_≡_, refl, ap, ap₂, sym, _∙_}
 use mathlib.Core.Logic.{inl, inr, ⊎-elim, _≢_}
 use native.Mathlib.Omega.{arith}
-use lib.Dec.{lit<, lit≤}
+use lib.Dec.{lit≤}
 use lib.ListN.{getD}
 use Rattle.words.specs.Bytes.{Apart}
 use Rattle.lists.specs.Cases.{lt-or, same-or}
 use Rattle.settings.specs.declared.Settings.{Settings}
-use Rattle.settings.proofs.Laws.{slotSize-le}
 use Rattle.layout.specs.declared.Shape.{Shape}
 use Rattle.layout.specs.Tiers.{mains, storeEnd, tierAt}
 use Rattle.layout.specs.Places.{Global, bulkCount, firstFree, usedTiers, headersOffset, storeSize, Header, entryCount, lowestFree, nextTier}
@@ -87,26 +86,6 @@ counter-within segment = lit≤ tt
 counter-within order = lit≤ tt
 counter-within count = lit≤ tt
 
-global-pos : (f : Global) → 0 < getD globalWidths (globalNo f) 0
-global-pos bulkCount = lit< tt
-global-pos firstFree = lit< tt
-global-pos usedTiers = lit< tt
-global-pos headersOffset = lit< tt
-global-pos storeSize = lit< tt
-
-header-pos : (f : Header) → 0 < getD headerWidths (headerNo f) 0
-header-pos entryCount = lit< tt
-header-pos lowestFree = lit< tt
-header-pos nextTier = lit< tt
-
-counter-pos : (f : Counter) → 0 < getD counterWidths (counterNo f) 0
-counter-pos next = lit< tt
-counter-pos previous = lit< tt
-counter-pos low = lit< tt
-counter-pos segment = lit< tt
-counter-pos order = lit< tt
-counter-pos count = lit< tt
-
 module _ {z : Shape} {len : ℕ} (fr : Framed z len) where
   open Shape z using (settings, headers)
   open Settings settings using (segments, headerSize, slotSize, slots, lookupSize, freeListSize, innerOffset, chunks, chunkSize, tierSize)
@@ -137,12 +116,14 @@ module _ {z : Shape} {len : ℕ} (fr : Framed z len) where
   part-apart (counter f) (byte j) h k ne = inl (omega (arith, counter-within f))
   part-apart (free b) (slot j) h k ne = inr (omega (arith, slot-within j k))
   part-apart (free b) (counter g) h k ne = inr (omega (arith, counter-within g))
-  part-apart (free b) (free c) h k ne = let n : b ≢ c = λ e. ne (ap free e) in ⊎-elim (λ (l : b < c). inl (omega arith)) (λ (l : c ≤ b). inr (omega arith)) (lt-or b c)
+  part-apart (free b) (free c) h k ne =
+      let n : b ≢ c = λ e. ne (ap free e) in ⊎-elim (λ (l : b < c). inl (omega arith)) (λ (l : c ≤ b). inr (omega arith)) (lt-or b c)
   part-apart (free b) (byte j) h k ne = inl (omega (arith, fr .valid .freeListSize .0))
   part-apart (byte i) (slot j) h k ne = inr (omega (arith, slot-within j k))
   part-apart (byte i) (counter g) h k ne = inr (omega (arith, counter-within g))
   part-apart (byte i) (free c) h k ne = inr (omega (arith, fr .valid .freeListSize .0))
-  part-apart (byte i) (byte j) h k ne = let n : i ≢ j = λ e. ne (ap byte e) in ⊎-elim (λ (l : i < j). inl (omega arith)) (λ (l : j ≤ i). inr (omega arith)) (lt-or i j)
+  part-apart (byte i) (byte j) h k ne =
+      let n : i ≢ j = λ e. ne (ap byte e) in ⊎-elim (λ (l : i < j). inl (omega arith)) (λ (l : j ≤ i). inr (omega arith)) (lt-or i j)
 
   -- ---- within the image
 
@@ -199,21 +180,8 @@ module _ {z : Shape} {len : ℕ} (fr : Framed z len) where
   apart (tier t p) (header u g) h k ne = inr (omega (arith, headers-end u g k, tier-start z t))
   apart (tier t p) (tier u q) h k ne = tiers-apart t u p q h k ne
 
-  pub wide-pos : (p : Place) → 0 < wide z p
-  unfolding wide partWide
-  wide-pos (global f) = global-pos f
-  wide-pos (header s f) = header-pos f
-  wide-pos (tier t (slot j)) = omega (arith, slotSize-le settings (fr .valid .slotSize) .0)
-  wide-pos (tier t (counter f)) = counter-pos f
-  wide-pos (tier t (free b)) = lit< tt
-  wide-pos (tier t (byte i)) = lit< tt
-
   pub inside : (p : Place) → In z p → at z p + wide z p ≤ storeEnd z
   unfolding at wide
   inside (global f) h = omega (arith, global-within f, fr .headersAfter, mains-after z, mains-end z)
   inside (header s f) h = omega (arith, headers-end s f h, mains-end z)
   inside (tier t p) h = omega (arith, part-within p (h .1), tier-end fr t (h .0))
-
-  -- two places that start at one byte are one place
-  pub at-inj : (p q : Place) → In z p → In z q → at z p ≡ at z q → p ≢ q → ⊥
-  at-inj p q h k e ne = ⊎-elim (λ a. omega (arith, wide-pos p)) (λ a. omega (arith, wide-pos q)) (apart p q h k ne)

@@ -1,4 +1,4 @@
--- What the rules bound: the products and sums of the code fit. Assumes nothing.
+-- What the rules bound: the products and sums of the code fit.
 use Prim.Native.Nat.{ℕ, _+_, _*_, _^_, _≤_, _<_}
 use mathlib.Core.Path.{_≡_}
 use mathlib.Core.Logic.{_⊎_, ⊎-elim}
@@ -51,7 +51,13 @@ framed-bounded {z} fr =
 
 pub framed-largest : {z : Shape} {len : ℕ} → Framed z len → Framed z largest
 framed-largest fr =
-    record { valid = fr .valid; headersAfter = fr .headersAfter; tierCount = fr .tierCount; within = omega (arith, fr .within, fr .small); small = le-refl largest }
+    record {
+      valid = fr .valid;
+      headersAfter = fr .headersAfter;
+      tierCount = fr .tierCount;
+      within = omega (arith, fr .within, fr .small);
+      small = le-refl largest;
+    }
 
 module _ {z : Shape} {len : ℕ} (fr : Framed z len) where
   open Shape z using (settings, headers, bulks)

@@ -1,4 +1,4 @@
--- The bytes of a tier's chunks, and what writes elsewhere keep of them. Assumes nothing.
+-- The bytes of a tier's chunks, and what writes elsewhere keep of them.
 use Prim.Native.Nat.{ℕ, _+_, _-_, _*_, _/_, _≤_, _<_}
 use mathlib.Core.List.{List}
 use mathlib.Core.Path.{_≡_, ap, sym, _∙_}

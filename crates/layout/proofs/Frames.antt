@@ -1,22 +1,17 @@
--- Laws of the frame: what is accepted, and which writes keep it. Assumes nothing.
-use Prim.Native.Nat.{ℕ, _+_, _-_, _*_, _≤_}
+-- Laws of the frame: what is accepted, and which writes keep it.
+use Prim.Native.Nat.{ℕ, _+_}
 use mathlib.Core.List.{List}
 use mathlib.Core.Path.{_≡_, refl, sym, _∙_}
-use mathlib.Core.Logic.{_≢_}
 use native.Mathlib.Omega.{arith}
 use lib.ListN.{length}
-use lib.Seq.{sets, length-sets}
 use Rattle.words.specs.Numbers.{le}
 use Rattle.settings.specs.declared.Settings.{Settings}
 use Rattle.settings.specs.Rules.{Valid}
 use Rattle.layout.specs.declared.Shape.{Shape}
 use Rattle.layout.specs.declared.Frame.the-variants.{Fits, Broken}
-use Rattle.layout.specs.Tiers.{IsTier}
-use Rattle.layout.specs.Places.{bulkCount, headersOffset, storeSize, Place, global, wide, In, get, put, putMarks, chunkAt}
+use Rattle.layout.specs.Places.{bulkCount, headersOffset, storeSize, global, wide, get}
 use Rattle.layout.specs.Frame.{shapeOf, FrameFits, frameFits?, fromFrame, frameOf, Framed}
-use Rattle.layout.proofs.Places.{global-at, get-at, get-other, length-put, by-kind}
-use Rattle.layout.proofs.Marks.{get-putMarks-other, length-putMarks}
-use Rattle.layout.proofs.Chunks.{get-sets-other}
+use Rattle.layout.proofs.Places.{global-at, get-at}
 
 -- ---- a frame is accepted exactly where it fits
 
@@ -66,10 +61,6 @@ pub shape-settings : (st : Settings) (img : List ℕ) → shapeOf st img .settin
 unfolding shapeOf
 shape-settings st img = refl
 
-pub shape-own : (st : Settings) (img : List ℕ) → shapeOf (shapeOf st img .settings) img ≡ shapeOf st img
-unfolding shapeOf
-shape-own st img = refl
-
 module _ (z : Shape) (img : List ℕ) where
   pub headers-get : get z img (global headersOffset) ≡ shapeOf (z .settings) img .headers
   unfolding shapeOf wide
@@ -102,41 +93,3 @@ fits-same z img img′ e s f =
       storeSizeIs = s ∙ f .storeSizeIs;
       storeWithin = rw e (f .storeWithin);
     }
-
--- ---- which writes keep them
-
-module _ {z : Shape} {len : ℕ} (fr : Framed z len) (img : List ℕ) where
-  pub shape-put : (p : Place) (v : ℕ) → In z p → p ≢ global headersOffset → p ≢ global bulkCount
-      → shapeOf (z .settings) (put z img p v) ≡ shapeOf (z .settings) img
-  shape-put p v h ne me =
-      shape-same z img (put z img p v)
-      (get-other fr img p v (global headersOffset) h tt (λ e. ne (sym e)))
-      (get-other fr img p v (global bulkCount) h tt (λ e. me (sym e)))
-
-  pub shape-putMarks : (t c n b : ℕ) → IsTier z t → c + n ≤ z .settings .chunks → shapeOf (z .settings) (putMarks z img t c n b) ≡ shapeOf (z .settings) img
-  shape-putMarks t c n b it fits =
-      shape-same z img (putMarks z img t c n b)
-      (get-putMarks-other fr img t c n b (global headersOffset) it fits tt (λ j. by-kind (omega arith)))
-      (get-putMarks-other fr img t c n b (global bulkCount) it fits tt (λ j. by-kind (omega arith)))
-
-  pub fits-put : (p : Place) (v : ℕ) → In z p → p ≢ global storeSize → FrameFits z img → FrameFits z (put z img p v)
-  fits-put p v h ne = fits-same z img (put z img p v) (length-put z img p v) (get-other fr img p v (global storeSize) h tt (λ e. ne (sym e)))
-
-  pub fits-putMarks : (t c n b : ℕ) → IsTier z t → c + n ≤ z .settings .chunks → FrameFits z img → FrameFits z (putMarks z img t c n b)
-  fits-putMarks t c n b it fits =
-      fits-same z img (putMarks z img t c n b) (length-putMarks z img t c n b)
-      (get-putMarks-other fr img t c n b (global storeSize) it fits tt (λ j. by-kind (omega arith)))
-
-  -- bytes written into the chunks
-  pub shape-sets : (t c : ℕ) (bs : List ℕ) → IsTier z t → c ≤ z .settings .chunks → length bs ≤ (z .settings .chunks - c) * z .settings .chunkSize
-      → shapeOf (z .settings) (sets img (chunkAt z t c) bs) ≡ shapeOf (z .settings) img
-  shape-sets t c bs it k fits =
-      shape-same z img (sets img (chunkAt z t c) bs)
-      (get-sets-other fr img t c bs (global headersOffset) it k fits tt (λ j. by-kind (omega arith)))
-      (get-sets-other fr img t c bs (global bulkCount) it k fits tt (λ j. by-kind (omega arith)))
-
-  pub fits-sets : (t c : ℕ) (bs : List ℕ) → IsTier z t → c ≤ z .settings .chunks → length bs ≤ (z .settings .chunks - c) * z .settings .chunkSize
-      → FrameFits z img → FrameFits z (sets img (chunkAt z t c) bs)
-  fits-sets t c bs it k fits =
-      fits-same z img (sets img (chunkAt z t c) bs) (length-sets img (chunkAt z t c) bs)
-      (get-sets-other fr img t c bs (global storeSize) it k fits tt (λ j. by-kind (omega arith)))

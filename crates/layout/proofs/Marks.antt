@@ -1,4 +1,4 @@
--- The bits of the free lists, one for each chunk, and what writes keep of them. Assumes nothing.
+-- The bits of the free lists, one for each chunk, and what writes keep of them.
 use Prim.Native.Nat.{ℕ, _+_, _-_, _*_, _/_, _%_, _≤_, _<_}
 use mathlib.Core.List.{List}
 use mathlib.Core.Path.{_≡_, sym}
@@ -83,7 +83,8 @@ module _ {z : Shape} {len : ℕ} (fr : Framed z len) (img : List ℕ) where
       le-ext _ _ (at z p) (wide z p) (λ j lo hi. getD-putBits-out img (freeListAt z t) c n b j (no-mark t c n p j it fits h ne lo hi))
 
   -- another tier's marks
-  pub mark-putMarks-tier : (t c n b u i : ℕ) → IsTier z t → IsTier z u → u ≢ t → c + n ≤ chunks → i < chunks → mark z (putMarks z img t c n b) u i ≡ mark z img u i
+  pub mark-putMarks-tier : (t c n b u i : ℕ) → IsTier z t → IsTier z u → u ≢ t → c + n ≤ chunks → i < chunks
+      → mark z (putMarks z img t c n b) u i ≡ mark z img u i
   mark-putMarks-tier t c n b u i it iu ne fits k =
       rw (
         mark-get z (putMarks z img t c n b) u i,

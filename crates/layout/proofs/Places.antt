@@ -1,4 +1,4 @@
--- The image is a map from places to numbers: reading after writing, and writes among themselves. Assumes nothing.
+-- The image is a map from places to numbers: reading after writing, and writes among themselves.
 use Prim.Native.Nat.{ℕ, _+_, _-_, _*_, _^_, _≤_, _<_}
 use mathlib.Core.List.{List, [], _∷_, _++_, List·Memᴰ·head, List·Memᴰ·tail}
 use mathlib.Core.Path.{_≡_, refl, ap, sym, _∙_}
@@ -10,7 +10,7 @@ use borrow.Author.Tests.{le-leb, lt-leb}
 use Rattle.lists.specs.Cases.{lt-or}
 use Rattle.lists.specs.Quantify.{Every}
 use Rattle.words.specs.Numbers.{le, putLe}
-use Rattle.words.proofs.Numbers.{length-putLe, bytes-putLe, le-lt, le-putLe-same, le-putLe-out, putLe-comm, putLe-again, putLe-le}
+use Rattle.words.proofs.Numbers.{length-putLe, bytes-putLe, le-lt, le-putLe-same, le-putLe-out}
 use Rattle.layout.specs.declared.Shape.{Shape}
 use Rattle.layout.specs.Tiers.{tierAt, IsTier}
 use Rattle.layout.specs.Places.{Global, Header, entryCount, lowestFree, nextTier, Counter, next, previous, low, segment, order, count, slot, counter, free, byte, Place, global, header, tier}
@@ -75,26 +75,12 @@ pub get-same : {z : Shape} {img : List ℕ} → Image z img → (p : Place) (v :
 unfolding get put
 get-same {z} {img} i p v h f = le-putLe-same img (at z p) (wide z p) v (omega (arith, inside (i .framed) p h, i .framed .within)) f
 
--- writing what stands there changes nothing; the last write of a place counts
-pub put-get : {z : Shape} {img : List ℕ} → Image z img → (p : Place) → put z img p (get z img p) ≡ img
-unfolding put get
-put-get {z} {img} i p = putLe-le img (at z p) (wide z p) (i .bytes)
-
-pub put-put : (z : Shape) (img : List ℕ) (p : Place) (v w : ℕ) → put z (put z img p v) p w ≡ put z img p w
-unfolding put
-put-put z img p v w = putLe-again img (at z p) (wide z p) v w
-
 -- ---- two places
 
 module _ {z : Shape} {len : ℕ} (fr : Framed z len) (img : List ℕ) where
   pub get-other : (p : Place) (v : ℕ) (q : Place) → In z p → In z q → q ≢ p → get z (put z img p v) q ≡ get z img q
   unfolding get put
   get-other p v q h k ne = le-putLe-out img (at z p) (wide z p) v (at z q) (wide z q) (apart fr p q h k (λ e. ne (sym e)))
-
-  -- in either order
-  pub put-comm : (p : Place) (v : ℕ) (q : Place) (w : ℕ) → In z p → In z q → p ≢ q → put z (put z img p v) q w ≡ put z (put z img q w) p v
-  unfolding put
-  put-comm p v q w h k ne = putLe-comm img (at z p) (wide z p) v (at z q) (wide z q) w (apart fr p q h k ne)
 
 -- ---- several writes
 
@@ -192,7 +178,8 @@ module _ (z : Shape) (f : Header) (g : Counter) where
   shared-wide-extra t h = rw (shared-extra t h)
 
   -- where the two have one width
-  pub shared-wide : (t : ℕ) → getD headerWidths (headerNo f) 0 ≡ getD counterWidths (counterNo g) 0 → wide z (sharedPlace z f g t) ≡ getD headerWidths (headerNo f) 0
+  pub shared-wide : (t : ℕ) → getD headerWidths (headerNo f) 0 ≡ getD counterWidths (counterNo g) 0
+      → wide z (sharedPlace z f g t) ≡ getD headerWidths (headerNo f) 0
   shared-wide t e = ⊎-elim (λ s. shared-wide-main t (s .0)) (λ s. shared-wide-extra t (s .0) ∙ sym e) (shared-is t)
 
   pub shared-in : (t : ℕ) → IsTier z t → In z (sharedPlace z f g t)

@@ -1,4 +1,4 @@
--- The tiers stand one after the other, from the end of the segment headers to the store's end. Assumes nothing.
+-- The tiers stand one after the other, from the end of the segment headers to the store's end.
 use Prim.Native.Nat.{ℕ, _+_, _-_, _*_, _/_, _%_, _≤_, _<_}
 use mathlib.Core.Path.{_≡_, ap}
 use mathlib.Core.Logic.{_⊎_, inl, inr, ⊎-elim, _≢_}
@@ -35,11 +35,6 @@ module _ (z : Shape) where
       → ((t ≤ segments) × (tierAt z t ≡ mains z + (t - 1) * tierSize))
       ⊎ ((segments < t) × (tierAt z t ≡ bulksAt z + extraAt z (t - 1 - segments)))
   tier-is t = ⊎-elim (λ h. inr (h, tier-extra t h)) (λ h. inl (h, tier-main t h)) (lt-or segments t)
-
-  -- a main tier is a tier
-  pub main-tier : (t : ℕ) → 1 ≤ t → t ≤ segments → IsTier z t
-  unfolding tiers
-  main-tier t h k = (h, omega arith)
 
   pub mains-after : headers ≤ mains z
   unfolding mains

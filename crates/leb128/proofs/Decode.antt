@@ -1,9 +1,9 @@
--- What is read at a place, path by path, and the laws: exactly the shortest forms are read, and what is written reads back. Assumes nothing.
+-- What is read at a place, path by path, and the laws: exactly the shortest forms are read, and what is written reads back.
 use Prim.Native.Nat.{ℕ, zero, suc, _+_, _-_, _*_, _/_, _%_, _≤_, _<_}
 use mathlib.Core.List.{List, [], _∷_}
 use mathlib.Core.Path.{_≡_, refl, ap, sym, _∙_}
 use mathlib.Core.Logic.{_⊎_, inl, inr, ⊎-elim, _≢_}
-use mathlib.Core.Bool.{Bool, true, false, _&&_}
+use mathlib.Core.Bool.{true, false}
 use native.Mathlib.Omega.{arith}
 use native.Mathlib.Nat.{add-zero}
 use native.Mathlib.Numerals.{add-one}
@@ -11,10 +11,9 @@ use borrow.Author.Tests.{lt-ltb, le-ltb, le-leb, lt-leb, leb-true}
 use lib.Dec.{leb, ltb}
 use lib.ListN.{length, getD, take, drop, drop-of-length-le, length-take, length-drop}
 use lib.Seq.{drop-cons, sets}
-use Rattle.words.specs.Bytes.{Bytes, cut, same}
+use Rattle.words.specs.Bytes.{cut, same}
 use Rattle.lists.specs.Cases.{lt-or, by-test}
 use Rattle.words.proofs.Bytes.{same-eq, same-true, same-false, cut-sets-same, getD-cut}
-use Rattle.leb128.specs.declared.Decoded.{Decoded}
 use Rattle.leb128.specs.declared.Decoded.the-variants.{Number, Refused}
 use Rattle.leb128.specs.Leb128.{encode, front, value, largest, accept, decode, Stands}
 use Rattle.leb128.proofs.Encode.{encode-1, encode-2, encode-3}
@@ -247,7 +246,8 @@ module _ (l : List ℕ) (at n : ℕ) where
       let b : 128 + n / 128 % 128 ≡ getD l (at + 1) 0 = stands-byte l at bs e 1 (omega arith) in
       let c : n / 128 / 128 ≡ getD l (at + 2) 0 = stands-byte l at bs e 2 (omega arith) in
       let same : 128 + n % 128 - 128 + (128 + n / 128 % 128 - 128) * 128 + n / 128 / 128 * 16384 ≡ n = omega arith in
-      decode-3 l at (128 + n % 128) (omega arith) (rw add-zero at a) (omega arith) (128 + n / 128 % 128) (omega arith) b (omega arith) (n / 128 / 128) (omega arith) c
+      decode-3 l at (128 + n % 128) (omega arith) (rw add-zero at a) (omega arith) (128 + n / 128 % 128) (omega arith) b (omega arith)
+      (n / 128 / 128) (omega arith) c
       ∙ accept-3 at (128 + n % 128) (128 + n / 128 % 128) (n / 128 / 128) (omega arith) (omega arith) (omega arith) (omega arith) (omega arith) (omega arith)
       ∙ ap (λ (k : ℕ). Number k (at + 3)) same
 
@@ -264,7 +264,8 @@ decode-complete l at n next s =
     (three n)
 
 -- what is written reads back
-pub decode-encode : (l : List ℕ) (at n : ℕ) → n ≤ largest → at + length (encode n) ≤ length l → decode (sets l at (encode n)) at ≡ Number n (at + length (encode n))
+pub decode-encode : (l : List ℕ) (at n : ℕ) → n ≤ largest → at + length (encode n) ≤ length l
+    → decode (sets l at (encode n)) at ≡ Number n (at + length (encode n))
 decode-encode l at n h room =
     decode-complete (sets l at (encode n)) at n _ (record { small = h; form = cut-sets-same l at (encode n) room; after = refl })
 

@@ -1,4 +1,4 @@
--- How often a number stands in a list, and where. Assumes nothing.
+-- How often a number stands in a list, and where.
 use Prim.Native.Nat.{ℕ, suc, _+_, _<_}
 use mathlib.Core.List.{List, [], _∷_, List·Memᴰ, List·Memᴰ·head, List·Memᴰ·tail, List·Memᴰ·not-nil, List·Memᴰ·cases-cons}
 use mathlib.Core.Path.{_≡_, refl, ap, sym, _∙_}

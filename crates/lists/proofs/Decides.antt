@@ -1,16 +1,17 @@
--- From a test to what it decides, and back. Assumes nothing.
-use Prim.Native.Nat.{ℕ, _≤_}
+-- From a test to what it decides, and back.
+use Prim.Native.Nat.{ℕ}
 use mathlib.Core.Path.{_≡_, sym, subst}
 use mathlib.Core.Bool.{Bool, true, false}
-use lib.Dec.{leb, eqb}
-use native.Mathlib.Omega.{arith}
-use borrow.Author.Tests.{leb-true, leb-false, eqb-true, eqb-false}
+use lib.Dec.{eqb}
+use borrow.Author.Tests.{eqb-true, eqb-false}
 use Rattle.lists.specs.Cases.{by-test}
 use Rattle.lists.specs.Decide.{Decides}
 
 module _ {P : Type 0} (b : Bool) where
   pub decides : (b ≡ true → P) → (b ≡ false → P → ⊥) → Decides b P
-  decides f g = by-test b (λ (t : b ≡ true). subst (λ (x : Bool). Decides x P) (sym t) (f t)) (λ (t : b ≡ false). subst (λ (x : Bool). Decides x P) (sym t) (g t))
+  decides f g =
+      by-test b (λ (t : b ≡ true). subst (λ (x : Bool). Decides x P) (sym t) (f t))
+      (λ (t : b ≡ false). subst (λ (x : Bool). Decides x P) (sym t) (g t))
 
   pub decided-true : Decides b P → b ≡ true → P
   decided-true d t = subst (λ (x : Bool). Decides x P) t d
@@ -19,8 +20,5 @@ module _ {P : Type 0} (b : Bool) where
   decided-false d t = subst (λ (x : Bool). Decides x P) t d
 
 module _ {P : Type 0} (m n : ℕ) where
-  pub decides-le : (m ≤ n → P) → (P → m ≤ n) → Decides (leb m n) P
-  decides-le f g = decides (leb m n) (λ t. f (leb-true m n t)) (λ t p. let h : m ≤ n = g p in omega (arith, leb-false m n t))
-
   pub decides-eq : (m ≡ n → P) → (P → m ≡ n) → Decides (eqb m n) P
   decides-eq f g = decides (eqb m n) (λ t. f (eqb-true m n t)) (λ t p. eqb-false m n t (g p))

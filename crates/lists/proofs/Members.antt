@@ -1,4 +1,4 @@
--- What is in a list that is made of others. Assumes nothing.
+-- What is in a list that is made of others.
 use Prim.Native.Nat.{ℕ}
 use native.Mathlib.Omega.{arith}
 use mathlib.Core.Path.{_≡_, refl, ap, sym, _∙_, subst}
@@ -6,7 +6,7 @@ use mathlib.Core.List.{List, [], _∷_, _++_, flatMap, List·Memᴰ, List·Mem�
 use mathlib.Core.Logic.{⊎-elim}
 use mathlib.Core.Bool.{Bool, true, false, false≢true}
 use Rattle.lists.specs.Cases.{by-test}
-use mathlib.Core.Option.{Option, none, some}
+use mathlib.Core.Option.{none, some}
 use Rattle.lists.specs.Lists.{first, those}
 use Rattle.lists.specs.Quantify.{Every}
 

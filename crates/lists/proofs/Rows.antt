@@ -1,4 +1,4 @@
--- Laws of numbers in a row: which of them pass a test, and which first. Assumes nothing.
+-- Laws of numbers in a row: which of them pass a test, and which first.
 use Prim.Native.Nat.{ℕ, zero, suc, _+_, _-_, _≤_, _<_}
 use mathlib.Core.List.{List, [], _∷_, _++_, append-nil}
 use mathlib.Core.Path.{_≡_, refl, ap, _∙_}
@@ -82,24 +82,6 @@ module _ (p : ℕ → Bool) where
 
   pub howMany-less : (n : ℕ) → p n ≡ false → howMany (below (n + 1)) p ≡ howMany (below n) p
   howMany-less n t = ap length (those-same n t)
-
-  -- none passes
-  pub none-passes : (n : ℕ) → howMany (below n) p ≡ 0 → Below n (λ i. p i ≡ false)
-  none-passes zero e i h = absurd (omega arith)
-  none-passes (suc n) e i h =
-      by-test (p n)
-      (λ (t : p n ≡ true). let u : howMany (below (suc n)) p ≡ howMany (below n) p + 1 = rw (← add-one n) (howMany-more n t) in absurd (omega arith))
-      (λ (t : p n ≡ false).
-      let u : howMany (below (suc n)) p ≡ howMany (below n) p = rw (← add-one n) (howMany-less n t) in
-      ⊎-elim (λ (q : i ≡ n). rw q t) (λ (q : i ≢ n). none-passes n (omega arith) i (omega arith)) (same-or i n))
-
-  below-zero : howMany (below 0) p ≡ 0
-  unfolding those span
-  below-zero = refl
-
-  pub none-counted : (n : ℕ) → Below n (λ i. p i ≡ false) → howMany (below n) p ≡ 0
-  none-counted zero f = below-zero
-  none-counted (suc n) f = rw (← add-one n) (howMany-less n (f n (omega arith)) ∙ none-counted n (λ i h. f i (omega arith)))
 
 -- ---- the numbers from j on, below n
 

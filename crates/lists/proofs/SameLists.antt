@@ -1,4 +1,4 @@
--- Functions on lists where what they are given agrees on the list's members. Assumes nothing.
+-- Functions on lists where what they are given agrees on the list's members.
 use Prim.Native.Nat.{ℕ, zero, suc, _+_, _≤_}
 use mathlib.Core.List.{List, [], _∷_, map, flatMap, List·Memᴰ·head, List·Memᴰ·tail}
 use mathlib.Core.Path.{_≡_, refl, ap}

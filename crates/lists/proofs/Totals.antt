@@ -1,6 +1,6 @@
--- Sums over lists. Assumes nothing.
-use Prim.Native.Nat.{ℕ, zero, suc, _+_, _≤_, _<_}
-use mathlib.Core.List.{List, [], _∷_, _++_, map, flatMap, List·Memᴰ, List·Memᴰ·head, List·Memᴰ·tail, List·Memᴰ·not-nil, List·Memᴰ·cases-cons}
+-- Sums over lists.
+use Prim.Native.Nat.{ℕ, _+_, _≤_, _<_}
+use mathlib.Core.List.{List, [], _∷_, map, flatMap, List·Memᴰ, List·Memᴰ·head, List·Memᴰ·tail, List·Memᴰ·not-nil, List·Memᴰ·cases-cons}
 use mathlib.Core.Path.{_≡_, refl, ap, sym, _∙_}
 use mathlib.Core.Logic.{⊎-elim, _≢_}
 use mathlib.Core.Bool.{Bool, true, false}
@@ -26,7 +26,9 @@ total-change (x ∷ ts) t f f′ one e =
     (λ (q : t ≡ x).
     let none : howMany ts (eqb t) ≡ 0 = omega (arith, one, howMany-same t x ts q) in
     let rest : total ts f′ ≡ total ts f =
-    total-same ts f f′ (λ u m. e u (List·Memᴰ·tail m) (λ (p : u ≡ t). let k : 0 < howMany ts (eqb u) = member-met u ts m in omega (arith, none, ap (λ (v : ℕ). howMany ts (eqb v)) p))) in
+    total-same ts f f′ (λ u m.
+    e u (List·Memᴰ·tail m)
+    (λ (p : u ≡ t). let k : 0 < howMany ts (eqb u) = member-met u ts m in omega (arith, none, ap (λ (v : ℕ). howMany ts (eqb v)) p))) in
     rw q (omega arith))
     (λ (q : t ≢ x).
     let same : f′ x ≡ f x = e x (List·Memᴰ·head refl) (λ p. q (sym p)) in

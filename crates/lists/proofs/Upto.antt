@@ -1,4 +1,4 @@
--- A loop that asks the same of each number below n: those below j were asked. Assumes nothing.
+-- A loop that asks the same of each number below n: those below j were asked.
 use Prim.Native.Nat.{ℕ, _+_, _≤_, _<_}
 use mathlib.Core.Path.{_≡_, subst}
 use native.Mathlib.Omega.{arith}
@@ -12,9 +12,6 @@ module _ (P : ℕ → Type 0) (n : ℕ) where
 
   pub upto-starts : Upto 0
   upto-starts = record { low = omega arith; held = λ i h. absurd (omega arith) }
-
-  pub upto-broken : (j : ℕ) → j < n → (P j → ⊥) → Below n P → ⊥
-  upto-broken j h b f = b (f j h)
 
   module _ {j : ℕ} (u : Upto j) where
     pub upto-turns : j < n → P j → Upto (j + 1)

@@ -1,4 +1,4 @@
--- A test taken apart, with what it tells; two numbers compared. Assumes nothing.
+-- A test taken apart, with what it tells; two numbers compared.
 use Prim.Native.Nat.{ℕ, _≤_, _<_}
 use mathlib.Core.Path.{_≡_, refl}
 use mathlib.Core.Logic.{_⊎_, inl, inr, _≢_}

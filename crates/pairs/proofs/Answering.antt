@@ -1,4 +1,4 @@
--- The two calls' answers, as the code puts them together. Assumes nothing.
+-- The two calls' answers, as the code puts them together.
 use Prim.Native.Nat.{ℕ, _+_, _-_, _^_, _<_}
 use mathlib.Core.List.{List}
 use mathlib.Core.Path.{_≡_, refl, ap, sym, _∙_}
@@ -59,7 +59,8 @@ module _ (a b : ℕ) (r : List ℕ) where
       pub number-not : toZ w32 (ofZ w32 x) ≢ mostNegative
       number-not q = n (read-most v high (sym held ∙ q))
 
-      pub record-found : length r ≡ 4 → {y : ℤ} → SFits w32 y → y ≡ inOrder a b (toZ w32 (ofZ w32 x)) → asked.Found (toZ w32 (ofZ w32 y)) ≡ fromRecord a b r (recordFits? r)
+      pub record-found : length r ≡ 4 → {y : ℤ} → SFits w32 y → y ≡ inOrder a b (toZ w32 (ofZ w32 x))
+          → asked.Found (toZ w32 (ofZ w32 y)) ≡ fromRecord a b r (recordFits? r)
       unfolding recordDelay
       record-found long {y} f ey =
           let own : recordDelay r ≡ toZ w32 v = ap (toZ w32) (sym e) in
@@ -155,10 +156,12 @@ module _ (block img : List ℕ) (a b : ℕ) (d : ℤ) where
   unfolding setDelay
   fault other e er = (λ i. record { answer = er i; image = img }) ∙ fault-by other (check block img .outcome) e
 
-  pub set-misfit : (ChannelsFit a b → ⊥) → {r : SetAnswer} → r ≡ unlessRefused set.BadPair (check block img .outcome) → record { answer = r; image = img } ≡ setDelay block img a b d
+  pub set-misfit : (ChannelsFit a b → ⊥) → {r : SetAnswer} → r ≡ unlessRefused set.BadPair (check block img .outcome)
+      → record { answer = r; image = img } ≡ setDelay block img a b d
   set-misfit n er = fault set.BadPair (set-no (channelsFit? a b) n) er
 
-  pub set-most : ChannelsFit a b → d ≡ mostNegative → {r : SetAnswer} → r ≡ unlessRefused set.BadDelay (check block img .outcome) → record { answer = r; image = img } ≡ setDelay block img a b d
+  pub set-most : ChannelsFit a b → d ≡ mostNegative → {r : SetAnswer} → r ≡ unlessRefused set.BadDelay (check block img .outcome)
+      → record { answer = r; image = img } ≡ setDelay block img a b d
   set-most f e er = fault set.BadDelay (most-yes (ℤ-discrete d mostNegative) e ∙ set-yes (channelsFit? a b) f) er
 
   -- where nothing else is refused, its refusal is the store's
@@ -168,10 +171,12 @@ module _ (block img : List ℕ) (a b : ℕ) (d : ℤ) where
     where
       by-outcome : (o : Outcome) → check block img .outcome ≡ o → stored (pairKey a b) (delayRecord (inOrder a b d)) ≡ setChecked block img a b d o
       by-outcome (outcome.Refused s) e =
-          ap (λ (x : Edited). record { answer = set.Stored (x .answer); image = x .image }) (check-store block img s (λ i. record { outcome = e i }) (pairKey a b) (delayRecord (inOrder a b d)))
+          ap (λ (x : Edited). record { answer = set.Stored (x .answer); image = x .image })
+          (check-store block img s (λ i. record { outcome = e i }) (pairKey a b) (delayRecord (inOrder a b d)))
       by-outcome (outcome.Accepted c) e = most-no (ℤ-discrete d mostNegative) n ∙ set-yes (channelsFit? a b) f
 
   pub set-stored : ChannelsFit a b → d ≢ mostNegative → {key : List ℕ} → key ≡ pairKey a b → {bytes : List ℕ} → bytes ≡ delayRecord (inOrder a b d)
-      → {r : Answer} {img′ : List ℕ} → record { answer = r; image = img′ } ≡ store block img key bytes → record { answer = set.Stored r; image = img′ } ≡ setDelay block img a b d
+      → {r : Answer} {img′ : List ℕ} → record { answer = r; image = img′ } ≡ store block img key bytes
+      → record { answer = set.Stored r; image = img′ } ≡ setDelay block img a b d
   set-stored f n ek eb e =
       ap (λ (x : Edited). record { answer = set.Stored (x .answer); image = x .image }) e ∙ (λ i. stored (ek i) (eb i)) ∙ set-fits f n

@@ -1,4 +1,4 @@
--- An ask and a set on an accepted image: what the ask reads of the map, and what the set alters of it. Assumes nothing.
+-- An ask and a set on an accepted image: what the ask reads of the map, and what the set alters of it.
 use Prim.Native.Nat.{ℕ}
 use mathlib.Core.List.{List}
 use mathlib.Core.Path.{_≡_, refl, ap, sym, _∙_, subst}

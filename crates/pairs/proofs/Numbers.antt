@@ -1,4 +1,4 @@
--- Signed numbers of 32 bits: the opposite, and the bits as the code works them out. Assumes nothing.
+-- Signed numbers of 32 bits: the opposite, and the bits as the code works them out.
 use Prim.Native.Nat.{ℕ, zero, suc, _-_, _≤_, _<_}
 use mathlib.Core.Path.{_≡_, refl, ap, sym, _∙_, subst}
 use mathlib.Core.Logic.{_≢_}

@@ -1,4 +1,4 @@
--- The key and the sign of a pair of channels, for either order. Assumes nothing.
+-- The key and the sign of a pair of channels, for either order.
 use Prim.Native.Nat.{ℕ, zero, suc, _≤_, _<_}
 use mathlib.Core.List.{[], _∷_}
 use mathlib.Core.Path.{_≡_, ap, sym, _∙_}

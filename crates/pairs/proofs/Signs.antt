@@ -1,4 +1,4 @@
--- Any list of asks and sets on an accepted image: the two orders of a pair have opposite delays. Assumes nothing.
+-- Any list of asks and sets on an accepted image: the two orders of a pair have opposite delays.
 use Prim.Native.Nat.{ℕ, suc, _+_}
 use mathlib.Core.List.{List, [], _∷_, _++_, append-assoc}
 use mathlib.Core.Path.{_≡_, refl, ap, sym, _∙_, subst}
@@ -26,7 +26,8 @@ use Rattle.pairs.proofs.Mapped.{fromMap, ask-unfit, ask-map, AfterSet, 
 -- ---- the reply to a call is the one on the image as the calls before it left it
 
 module _ (block : List ℕ) where
-  reply-later : (before cs : List PairCall) (img : List ℕ) (i : ℕ) → reply block img (before ++ cs) (length before + i) ≡ reply block (pairRun block img before) cs i
+  reply-later : (before cs : List PairCall) (img : List ℕ) (i : ℕ)
+      → reply block img (before ++ cs) (length before + i) ≡ reply block (pairRun block img before) cs i
   unfolding pairReplies pairRun
   reply-later [] cs img i = rw (zero-add i)
   reply-later (c ∷ before) cs img i = rw (suc-add (length before) i) (reply-later before cs (pairLeaves block img c) i)
@@ -92,7 +93,8 @@ module _ (a b : ℕ) (n : a ≢ b) where
   map-zero (some p) = record-zero (p .value) (recordFits? (p .value))
 
 -- a delay that was set
-set-asked : (a b : ℕ) {d : ℤ} → SFits w32 d → d ≢ mostNegative → askedReply (fromRecord a b (delayRecord d) (recordFits? (delayRecord d))) ≡ record { number = 0; delay = inOrder a b d }
+set-asked : (a b : ℕ) {d : ℤ} → SFits w32 d → d ≢ mostNegative
+    → askedReply (fromRecord a b (delayRecord d) (recordFits? (delayRecord d))) ≡ record { number = 0; delay = inOrder a b d }
 set-asked a b {d} f n =
     ap askedReply (sym (record-yes a b (delayRecord d) (recordFits? (delayRecord d)) (record-fits d f n)))
     ∙ ap (λ (x : ℤ). record { number = 0; delay = inOrder a b x }) (record-back d f)
@@ -108,7 +110,9 @@ module _ (block img : List ℕ) (k : AcceptedBytes block img) where
   zero-fits a b e =
       elim (channelsFit? a b) [
         | yes f ↦ f
-        | no n ↦ absurd (let q : 11 ≡ 0 = subst (λ (r : Asked). askedReply r .number ≡ 0) (sym (ask-unfit block img (k .bytes) (k .accepted) a b n)) e in omega arith)
+        | no n ↦ absurd
+            (let q : 11 ≡ 0 = subst (λ (r : Asked). askedReply r .number ≡ 0) (sym (ask-unfit block img (k .bytes) (k .accepted) a b n)) e in
+            omega arith)
       ]
 
 -- ---- two calls of a pair, with no set of it between
@@ -130,8 +134,10 @@ module _ (block img : List ℕ) (kept : AcceptedBytes block img) (a b : ℕ) (be
       let img₂ : List ℕ = pairRun block img₁ between in
       let k₂ : AcceptedBytes block img₂ = accepted-run block between img₁ k₁ in
       let o : Option Pair = mapGet (mapOf block img₁) (pairKey a b) in
-      let e₁ : reply block img asked-twice (length before) ≡ askedReply (delay block img₁ a b) = reply-at block before (asks a b) (between ++ asks b a ∷ after) img in
-      let e₂ : reply block img asked-twice (length before + suc (length between)) ≡ askedReply (delay block img₂ b a) = reply-second block before (asks a b) between (asks b a) after img in
+      let e₁ : reply block img asked-twice (length before) ≡ askedReply (delay block img₁ a b) =
+      reply-at block before (asks a b) (between ++ asks b a ∷ after) img in
+      let e₂ : reply block img asked-twice (length before + suc (length between)) ≡ askedReply (delay block img₂ b a) =
+      reply-second block before (asks a b) between (asks b a) after img in
       let f : ChannelsFit a b = zero-fits block img₁ k₁ a b (sym (ap (λ (r : Reply). r .number) e₁) ∙ zero₁) in
       let d₁ : delay block img₁ a b ≡ fromMap a b o = ask-kept block img₁ k₁ a b f in
       let d₂ : delay block img₂ b a ≡ fromMap b a o =
@@ -141,7 +147,9 @@ module _ (block img : List ℕ) (kept : AcceptedBytes block img) (a b : ℕ) (be
       (λ i. (e₁ ∙ ap askedReply d₁) i .delay +ℤ (e₂ ∙ ap askedReply d₂) i .delay) ∙ map-zero a b (f .1 .1) o
 
   -- an ask of the pair after a set, which gives x
-  module _ (d : ℤ) (a′ b′ : ℕ) (x : ℤ) (order : ChannelsFit a b → ChannelsFit a′ b′ × (pairKey a′ b′ ≡ pairKey a b) × (inOrder a′ b′ (inOrder a b d) ≡ x)) (fits : SFits w32 d) where
+  module _ (d : ℤ) (a′ b′ : ℕ) (x : ℤ)
+      (order : ChannelsFit a b → ChannelsFit a′ b′ × (pairKey a′ b′ ≡ pairKey a b) × (inOrder a′ b′ (inOrder a b d) ≡ x))
+      (fits : SFits w32 d) where
     abbrev set-then-asked : List PairCall
     set-then-asked = before ++ (sets a b d ∷ (between ++ asks a′ b′ ∷ after))
 
@@ -154,7 +162,8 @@ module _ (block img : List ℕ) (kept : AcceptedBytes block img) (a b : ℕ) (be
         let k₂ : AcceptedBytes block img₂ = accepted-leaves block img₁ k₁ (sets a b d) in
         let img₃ : List ℕ = pairRun block img₂ between in
         let k₃ : AcceptedBytes block img₃ = accepted-run block between img₂ k₂ in
-        let e₁ : reply block img set-then-asked (length before) ≡ numbered (setNumber (setDelay block img₁ a b d .answer)) = reply-at block before (sets a b d) (between ++ asks a′ b′ ∷ after) img in
+        let e₁ : reply block img set-then-asked (length before) ≡ numbered (setNumber (setDelay block img₁ a b d .answer)) =
+        reply-at block before (sets a b d) (between ++ asks a′ b′ ∷ after) img in
         let z : setNumber (setDelay block img₁ a b d .answer) ≡ 0 = sym (ap (λ (r : Reply). r .number) e₁) ∙ zero₁ in
         let s : ChannelsFit a′ b′ × (pairKey a′ b′ ≡ pairKey a b) × (inOrder a′ b′ (inOrder a b d) ≡ x) = order (l .fits z .0) in
         let n : d ≢ mostNegative = l .fits z .1 in
@@ -179,7 +188,9 @@ signs-kept block img bytes accepted calls =
           rw q (as-set block img kept a b before between after none-set d a b d (λ f. (f, refl, sign-twice a b d)) fits (rw q at z₁));
       otherOrder = λ a b d before between after e fits none-set z₁.
           let q : calls ≡ before ++ (sets a b d ∷ (between ++ asks b a ∷ after)) = e ∙ append-assoc before (sets a b d ∷ between) (asks b a ∷ after) in
-          rw q (as-set block img kept a b before between after none-set d b a (negℤ d) (λ f. (swapped f, key-either a b (f .1 .1), sign-either a b (inOrder a b d) (f .1 .1) ∙ ap negℤ (sign-twice a b d))) fits (rw q at z₁));
+          rw q (as-set block img kept a b before between after none-set d b a (negℤ d)
+          (λ f. (swapped f, key-either a b (f .1 .1), sign-either a b (inOrder a b d) (f .1 .1) ∙ ap negℤ (sign-twice a b d))) fits
+          (rw q at z₁));
     }
   where
     kept : AcceptedBytes block img

@@ -1,4 +1,4 @@
--- The records of the worked store, 16 and minus 16 microseconds, and the limits of 32 bits, by computing the definitions. Assumes nothing.
+-- The records of the worked store, 16 and minus 16 microseconds, and the limits of 32 bits, by computing the definitions.
 use Prim.Native.Nat.{ℕ}
 use mathlib.Core.List.{List, [], _∷_, map}
 use mathlib.Core.Path.{_≡_, refl}

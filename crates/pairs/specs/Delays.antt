@@ -1,4 +1,5 @@
--- The two calls: each says its whole answer, and a set every byte of the image on return. The check's 2 to 7 come first, then 11, then 12, then the store's 9, 1 and 10.
+-- The two calls: each says its whole answer, and a set every byte of the image on return. The check's 2 to 7 come first, then 11, then 12,
+-- then the store's 9, 1 and 10.
 use Prim.Native.Nat.{ℕ}
 use mathlib.Core.List.{List}
 use mathlib.Core.Path.{_≡_}

@@ -1,4 +1,4 @@
--- What is known before an entry is placed, and what that says of its bytes and of its slot's number. Assumes nothing.
+-- What is known before an entry is placed, and what that says of its bytes and of its slot's number.
 use Prim.Native.Nat.{ℕ, zero, suc, _+_, _-_, _*_, _^_, _≤_, _<_}
 use mathlib.Core.List.{List, [], _∷_, _++_, List·Memᴰ}
 use mathlib.Core.Path.{_≡_}

@@ -1,4 +1,4 @@
--- Bytes written one by one, and an entry's bytes written part by part. Assumes nothing.
+-- Bytes written one by one, and an entry's bytes written part by part.
 use Prim.Native.Nat.{ℕ, suc, _+_, _≤_, _<_}
 use mathlib.Core.List.{List, [], _∷_, _++_}
 use mathlib.Core.Path.{_≡_, refl, ap, ap₂, sym, _∙_}

@@ -1,4 +1,4 @@
--- What stands in the tier that an entry is written to: its slots, marks and chunks. Assumes nothing.
+-- What stands in the tier that an entry is written to: its slots, marks and chunks.
 use Prim.Native.Nat.{ℕ, _+_, _-_, _*_, _^_, _≤_, _<_}
 use mathlib.Core.List.{List}
 use mathlib.Core.Path.{_≡_, _∙_}

@@ -1,4 +1,4 @@
--- The run that a tier or a chain has for an entry, found as the code looks for it. Assumes nothing.
+-- The run that a tier or a chain has for an entry, found as the code looks for it.
 use Prim.Native.Nat.{ℕ, suc, _+_, _-_, _≤_, _<_}
 use mathlib.Core.List.{List, [], _∷_}
 use mathlib.Core.Path.{_≡_, refl, sym, _∙_}

@@ -1,4 +1,4 @@
--- The slots of the tier after a new entry's number is put into the first empty one from its start on. Assumes nothing.
+-- The slots of the tier after a new entry's number is put into the first empty one from its start on.
 use Prim.Native.Nat.{ℕ, zero, suc, _+_, _<_}
 use mathlib.Core.List.{List}
 use mathlib.Core.Path.{_≡_, refl, ap, sym, _∙_}
@@ -7,7 +7,6 @@ use native.Mathlib.Omega.{arith}
 use lib.Dec.{eqb}
 use lib.ListN.{length}
 use lib.Seq.{sets}
-use borrow.Author.Tests.{ne-eqb}
 use Rattle.lists.specs.Cases.{by-test}
 use Rattle.lists.specs.Quantify.{Below}
 use Rattle.settings.specs.declared.Settings.{Settings}
@@ -65,9 +64,6 @@ module _ (z : Shape) (img : List ℕ) (s t c : ℕ) (key value : List ℕ) (p : 
   -- before and after the slot is filled, the slot, its number
   abbrev m : List ℕ
   m = wrote z img t c key value
-
-  abbrev m′ : List ℕ
-  m′ = after z img t c key value
 
   abbrev r : ℕ
   r = place z img t c key value

@@ -1,4 +1,4 @@
--- The tier's entries from before: none covers a chunk of the run, so each reads as it did. Assumes nothing.
+-- The tier's entries from before: none covers a chunk of the run, so each reads as it did.
 use Prim.Native.Nat.{ℕ, _+_, _≤_, _<_}
 use mathlib.Core.List.{List}
 use mathlib.Core.Path.{_≡_, refl, ap, sym, _∙_}
@@ -89,7 +89,8 @@ whole-is Broken h = absurd h
 chunk-mono : (z : Shape) (t a b : ℕ) → a ≤ b → chunkAt z t a ≤ chunkAt z t b
 chunk-mono z t a b h = omega (arith, chunk-at z t a, chunk-at z t b, mul-le-mul-right (z .settings .chunkSize) h)
 
-module _ (z : Shape) (img : List ℕ) (s t c : ℕ) (key value : List ℕ) (p : Places z img s t c key value) (k : ℕ) (hk : k < z .settings .slots) (fk : slotAt z img t k ≢ 0) where
+module _ (z : Shape) (img : List ℕ) (s t c : ℕ) (key value : List ℕ) (p : Places z img s t c key value) (k : ℕ)
+    (hk : k < z .settings .slots) (fk : slotAt z img t k ≢ 0) where
   open Shape z using (settings)
   open Settings settings using (slots, chunks)
 

@@ -1,4 +1,4 @@
--- The loop for the lowest run of n clear chunks: no run starts before the clear chunks that end at i. Assumes nothing.
+-- The loop for the lowest run of n clear chunks: no run starts before the clear chunks that end at i.
 use Prim.Native.Nat.{ℕ, zero, suc, _+_, _-_, _≤_, _<_}
 use mathlib.Core.Path.{_≡_, refl}
 use mathlib.Core.Logic.{⊎-elim, _≢_}

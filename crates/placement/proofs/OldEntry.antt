@@ -1,4 +1,4 @@
--- What the code finds of a tier's chunks and slots where the old entry counts as removed. Assumes nothing.
+-- What the code finds of a tier's chunks and slots where the old entry counts as removed.
 use Prim.Native.Nat.{ℕ, _+_, _-_, _≤_, _<_}
 use mathlib.Core.List.{List}
 use mathlib.Core.Path.{_≡_, refl}

@@ -1,4 +1,4 @@
--- An entry that is placed: the image is sound again, and has one key and record more. Assumes nothing.
+-- An entry that is placed: the image is sound again, and has one key and record more.
 use Prim.Native.Nat.{ℕ, _+_}
 use mathlib.Core.List.{List, List·Memᴰ}
 use mathlib.Core.Path.{_≡_, ap, _∙_}

@@ -1,4 +1,4 @@
--- The tier after an entry was written and its slot filled: every full slot has a fitting entry, and every rule holds again. Assumes nothing.
+-- The tier after an entry was written and its slot filled: every full slot has a fitting entry, and every rule holds again.
 use Prim.Native.Nat.{ℕ, _+_, _≤_, _<_}
 use mathlib.Core.List.{List, List·Memᴰ}
 use mathlib.Core.Path.{_≡_, refl, ap, sym, _∙_, subst}
@@ -75,7 +75,8 @@ module _ (z : Shape) (img : List ℕ) (s t c : ℕ) (key value : List ℕ) (p : 
 
   fits-here : EntryFits z m′ s t r
   fits-here =
-      entry-right z m′ s t r v (slotChunk settings v) (sym slot-here) refl made stored-here (number-rest z img s t c key value p) (p .keyLong .0) (p .keyLong .1)
+      entry-right z m′ s t r v (slotChunk settings v) (sym slot-here) refl made stored-here (number-rest z img s t c key value p)
+      (p .keyLong .0) (p .keyLong .1)
       n refl (p .notTooMany) (rw (number-chunk z img s t c key value p) (p .rangeEnds))
       (rw (whole .1) (record { segmentAgrees = p .segmentIs; lookupAgrees = sym (number-key z img s t c key value p) }))
 
@@ -124,7 +125,9 @@ module _ (z : Shape) (img : List ℕ) (s t c : ℕ) (key value : List ℕ) (p : 
   marks-after : (i : ℕ) → i < chunks → howMany (liveIn z m′ s t) (covers i) ≡ mark z m′ t i
   marks-after i hi =
       let same : Below slots (λ j. slotAt z img t j ≢ 0 → coversOf z m′ t i (slotAt z img t j) ≡ coversOf z img t i (slotAt z img t j)) =
-      λ j hj f. ap (λ (e : Entry). within (chunkOf z img t j) (chunksFor settings (e .keyLength) (e .valueLength)) i) (entry-kept z img s t c key value p j hj f) in
+      λ j hj f.
+      ap (λ (e : Entry). within (chunkOf z img t j) (chunksFor settings (e .keyLength) (e .valueLength)) i)
+      (entry-kept z img s t c key value p j hj f) in
       let here : coversOf z m′ t i v ≡ within c n i =
       ap (λ (e : Entry). within (slotChunk settings v) (chunksFor settings (e .keyLength) (e .valueLength)) i) (ap entryOf stored-here)
       ∙ ap (λ (x : ℕ). within x n i) (number-chunk z img s t c key value p) in

@@ -1,4 +1,4 @@
--- What the loop that looks for an empty slot keeps: what is left gives the same as the whole. Assumes nothing.
+-- What the loop that looks for an empty slot keeps: what is left gives the same as the whole.
 use Prim.Native.Nat.{ℕ, _-_, _≤_, _<_}
 use mathlib.Core.List.{List}
 use mathlib.Core.Path.{_≡_, ap, sym, _∙_}
@@ -40,7 +40,9 @@ module _ (z : Shape) (img : List ℕ) (t i₀ : ℕ) where
     rooming-turns v e n pos j ej =
         record {
           lt = rw ej (next-lt slots (w .lt));
-          is = ap (probe slots stop (left - 1)) ej ∙ sym (probe-goes slots stop left (left - 1) i (omega arith) (ne-eqb (slotAt z img t i) 0 (λ x. n (e ∙ x)))) ∙ w .is;
+          is =
+              ap (probe slots stop (left - 1)) ej
+              ∙ sym (probe-goes slots stop left (left - 1) i (omega arith) (ne-eqb (slotAt z img t i) 0 (λ x. n (e ∙ x)))) ∙ w .is;
         }
 
     pub rooming-out : left ≤ 0 → (i ≡ room (slotsOf z t) img i₀) × (i < slots)

@@ -1,4 +1,4 @@
--- What the first tier that takes an entry of n chunks has, and on what of the image that depends. Assumes nothing.
+-- What the first tier that takes an entry of n chunks has, and on what of the image that depends.
 use Prim.Native.Nat.{ℕ, zero, suc, _+_, _-_, _≤_, _<_}
 use mathlib.Core.List.{List, [], _∷_, List·Memᴰ, List·Memᴰ·head, List·Memᴰ·tail}
 use mathlib.Core.Path.{_≡_, refl, ap, _∙_}
@@ -45,7 +45,8 @@ module _ (z : Shape) (full : ℕ → ℕ) (isClear : ℕ → ℕ → Bool) where
   lowest-found : (t n c : ℕ) → lowestRun z full isClear t n ≡ some c → (c + n ≤ chunks) × ((i : ℕ) → c ≤ i → i < c + n → isClear t i ≡ true)
   unfolding lowestRun
   lowest-found t n c h =
-      let r : List·Memᴰ c (below (suc chunks - n)) × (clearFrom z full isClear t c n ≡ true) = first-in (λ d. clearFrom z full isClear t d n) c (below (suc chunks - n)) h in
+      let r : List·Memᴰ c (below (suc chunks - n)) × (clearFrom z full isClear t c n ≡ true) =
+      first-in (λ d. clearFrom z full isClear t d n) c (below (suc chunks - n)) h in
       (omega (arith, span-in 0 (suc chunks - n) c (r .0)), all-clear t c n (r .1))
 
   -- by the answer of the lowest run

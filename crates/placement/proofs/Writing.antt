@@ -1,4 +1,4 @@
--- What placing an entry writes: nothing but the tier's marks, chunks and one slot. Assumes nothing.
+-- What placing an entry writes: nothing but the tier's marks, chunks and one slot.
 use Prim.Native.Nat.{ℕ, _+_, _-_, _*_, _≤_, _<_}
 use mathlib.Core.List.{List}
 use mathlib.Core.Path.{_≡_, _∙_}

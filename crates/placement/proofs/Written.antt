@@ -1,4 +1,4 @@
--- An entry placed step by step: what each step asks, and what the steps give together. Assumes nothing.
+-- An entry placed step by step: what each step asks, and what the steps give together.
 use Prim.Native.Nat.{ℕ, _+_, _≤_, _<_}
 use mathlib.Core.List.{List}
 use mathlib.Core.Path.{_≡_, ap, ap₂, _∙_}
@@ -20,7 +20,8 @@ use Rattle.search.specs.Search.{slotsOf}
 use Rattle.upkeep.specs.Recount.{recount}
 use Rattle.placement.specs.Placement.{written, slotted, placeAt}
 
-module _ {z : Shape} {len : ℕ} (fr : Framed z len) (t c : ℕ) (key value : List ℕ) (hk : length key ≤ 1024) (hv : length value ≤ 65535) (room : c + chunksFor (z .settings) (length key) (length value) ≤ z .settings .chunks) where
+module _ {z : Shape} {len : ℕ} (fr : Framed z len) (t c : ℕ) (key value : List ℕ) (hk : length key ≤ 1024) (hv : length value ≤ 65535)
+    (room : c + chunksFor (z .settings) (length key) (length value) ≤ z .settings .chunks) where
   open Shape z using (settings)
   open Settings settings using (chunks, chunkSize)
 

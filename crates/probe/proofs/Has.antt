@@ -1,7 +1,7 @@
--- What the sums say of single numbers: whether a table has a number, and how often. Assumes nothing.
-use Prim.Native.Nat.{ℕ, suc, _<_}
-use mathlib.Core.Path.{_≡_, refl, ap, sym}
-use mathlib.Core.Logic.{⊎-elim, _≢_, _↔_}
+-- What the sums say of single numbers: whether a table has a number, and how often.
+use Prim.Native.Nat.{ℕ, _<_}
+use mathlib.Core.Path.{_≡_, refl}
+use mathlib.Core.Logic.{⊎-elim, _≢_}
 use mathlib.Core.Bool.{true, false}
 use native.Mathlib.Omega.{arith}
 use lib.Dec.{eqb}
@@ -9,7 +9,7 @@ use borrow.Author.Tests.{eq-eqb, ne-eqb}
 use Rattle.lists.specs.Cases.{same-or}
 use Rattle.probe.specs.Table.{Table, Empty, total}
 use Rattle.probe.specs.Search.{room}
-use Rattle.probe.proofs.Table.{Lawful, total-has, total-found}
+use Rattle.probe.proofs.Table.{Lawful, total-found}
 use Rattle.probe.proofs.Insertion.{insert-totals}
 use Rattle.probe.proofs.Removal.{Removed}
 
@@ -41,24 +41,11 @@ module _ {M : Type 0} (𝓣 : Table M) where
   unfoldable pub count : M → ℕ → ℕ
   count m w = total 𝓣 (one-at w) m size
 
-  pub has-count : (m : M) (w : ℕ) → Has m w → 0 < count m w
-  unfolding count
-  has-count m w h = omega (arith, total-has 𝓣 (one-at w) m size (h .slot) (h .lt), ap (one-at w) (h .is), one-at-same w)
-
   pub count-has : (m : M) (w : ℕ) → 0 < count m w → Has m w
   unfolding count
   count-has m w l = let r : _ = total-found 𝓣 (one-at w) m size l in record { slot = r .0; lt = r .1; is = one-at-pos w _ (r .2) }
 
   module _ (law : Lawful 𝓣) (m m′ : M) (h : ℕ) (r : Removed 𝓣 law m h m′) where
-    -- every number but the removed one and 0 stands as often as before, and the removed one once less
-    pub removed-other : (w : ℕ) → w ≢ get m h → w ≢ 0 → count m′ w ≡ count m w
-    unfolding count
-    removed-other w a b = omega (arith, r .totals (one-at w), one-at-other w (get m h) (λ q. a (sym q)), one-at-other w 0 (λ q. b (sym q)))
-
-    pub removed-one : get m h ≢ 0 → suc (count m′ (get m h)) ≡ count m (get m h)
-    unfolding count
-    removed-one nz = omega (arith, r .totals (one-at (get m h)), one-at-same (get m h), one-at-other (get m h) 0 (λ q. nz (sym q)))
-
     pub removed-empty : get m h ≢ 0 → (e : ℕ) × Empty 𝓣 m′ e
     unfolding count
     removed-empty nz =
@@ -66,20 +53,9 @@ module _ {M : Type 0} (𝓣 : Table M) where
         let e : Has m′ 0 = count-has m′ 0 p in
         (e .slot, record { lt = e .lt; free = e .is })
 
-    pub removed-has : (w : ℕ) → w ≢ get m h → w ≢ 0 → Has m w ↔ Has m′ w
-    removed-has w a b = (λ x. count-has m′ w (omega (arith, has-count m w x, removed-other w a b)), λ x. count-has m w (omega (arith, has-count m′ w x, removed-other w a b)))
-
   module _ (law : Lawful 𝓣) (m : M) (v e : ℕ) (ok : law .Ok m) (fit : law .Fit v) (nz : v ≢ 0) (em : Empty 𝓣 m e) where
     abbrev new : M
     new = put m (room 𝓣 m (home v)) v
-
-    pub inserted-other : (w : ℕ) → w ≢ v → w ≢ 0 → count new w ≡ count m w
-    unfolding count
-    inserted-other w a b = omega (arith, insert-totals 𝓣 law m v e ok fit nz em (one-at w), one-at-other w v (λ q. a (sym q)), one-at-other w 0 (λ q. b (sym q)))
-
-    pub inserted-one : count new v ≡ suc (count m v)
-    unfolding count
-    inserted-one = omega (arith, insert-totals 𝓣 law m v e ok fit nz em (one-at v), one-at-same v, one-at-other v 0 (λ q. nz (sym q)))
 
     -- with two empty slots before, one is left
     pub inserted-empty : 1 < count m 0 → (e : ℕ) × Empty 𝓣 new e

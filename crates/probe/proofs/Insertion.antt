@@ -1,4 +1,4 @@
--- A number put into the first empty slot from its start on. Assumes nothing.
+-- A number put into the first empty slot from its start on.
 use Prim.Native.Nat.{ℕ, _+_, _≤_}
 use mathlib.Core.Path.{_≡_, ap}
 use mathlib.Core.Logic.{⊎-elim, _≢_}

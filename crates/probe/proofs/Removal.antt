@@ -1,4 +1,4 @@
--- What a removal does. Assumes nothing.
+-- What a removal does.
 use Prim.Native.Nat.{ℕ, zero, suc, _+_, _≤_, _<_}
 use mathlib.Core.Path.{_≡_, refl, ap, ap₂, sym, _∙_}
 use mathlib.Core.Logic.{⊎-elim, _≢_}

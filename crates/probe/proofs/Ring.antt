@@ -1,4 +1,4 @@
--- Laws of the ring. The slot k lies on the stretch from a up to and including j where dist C a k ≤ dist C a j. Assumes nothing.
+-- Laws of the ring. The slot k lies on the stretch from a up to and including j where dist C a k ≤ dist C a j.
 use Prim.Native.Nat.{ℕ, suc, _+_, _-_, _≤_, _<_}
 use mathlib.Core.Path.{_≡_}
 use mathlib.Core.Logic.{_⊎_, inl, inr, ⊎-elim, _≢_, _↔_}

@@ -1,4 +1,4 @@
--- What a search finds. Assumes nothing.
+-- What a search finds.
 use Prim.Native.Nat.{ℕ, zero, suc, _≤_, _<_}
 use mathlib.Core.Path.{_≡_, refl, sym, _∙_}
 use mathlib.Core.Logic.{⊎-elim, _≢_}
@@ -39,8 +39,11 @@ module _ (C : ℕ) (stop : ℕ → Bool) where
   probe-first zero i e hi he se l two = absurd (omega arith)
   probe-first (suc n) i e hi he se l two =
       by-test (stop i)
-      (λ (t : stop i ≡ true). rw (probe-stops (suc n) i t) (record { lt = hi; stops = t; before = λ k hk d. absurd (let z : _ = dist-self C i in omega arith) }))
-      (λ (t : stop i ≡ false). rw (probe-goes (suc n) n i refl t) (further t (probe-first n (next C i) e (next-lt C hi) he se (omega (arith, nearer t he se)) two)))
+      (λ (t : stop i ≡ true).
+      rw (probe-stops (suc n) i t) (record { lt = hi; stops = t; before = λ k hk d. absurd (let z : _ = dist-self C i in omega arith) }))
+      (λ (t : stop i ≡ false).
+      rw (probe-goes (suc n) n i refl t)
+      (further t (probe-first n (next C i) e (next-lt C hi) he se (omega (arith, nearer t he se)) two)))
     where
       nearer : stop i ≡ false → {k : ℕ} → k < C → stop k ≡ true → dist C i k ≡ suc (dist C (next C i) k)
       nearer t {k} hk sk = dist-nearer C hi hk two (λ (q : i ≡ k). true≢false (sym (rw q sk) ∙ t))
@@ -88,8 +91,3 @@ module _ {M : Type 0} (𝓣 : Table M) (law : Lawful 𝓣) (m : M) (i e : ℕ) (
         absurd (true≢false (sym t ∙ seek-first .before j hj l)))
         (λ (l : dist size i (seek 𝓣 hit m i) ≤ dist size i j). good j (seek 𝓣 hit m i) hj seek-lt fj (rw hm l))
         (lt-or (dist size i j) (dist size i (seek 𝓣 hit m i)))
-
-    -- the one slot that is meant is the one that is found
-    pub seek-is : Good 𝓣 m → (j : ℕ) → j < size → get m j ≢ 0 → home (get m j) ≡ i → hit (get m j) ≡ true
-        → ((k : ℕ) → k < size → get m k ≢ 0 → hit (get m k) ≡ true → k ≡ j) → seek 𝓣 hit m i ≡ j
-    seek-is good j hj fj hm ht one = let f : _ = seek-finds good j hj fj hm ht in one (seek 𝓣 hit m i) seek-lt f (seek-hit f)

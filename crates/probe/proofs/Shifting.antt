@@ -1,4 +1,4 @@
--- The table while a removal shifts its slots: it is good but for the hole. Assumes nothing.
+-- The table while a removal shifts its slots: it is good but for the hole.
 use Prim.Native.Nat.{ℕ, suc, _≤_, _<_}
 use mathlib.Core.Path.{_≡_, sym, _∙_}
 use mathlib.Core.Logic.{⊎-elim, _≢_}
@@ -118,7 +118,8 @@ module _ {M : Type 0} (𝓣 : Table M) (law : Lawful 𝓣) where
           omega (arith, s .ahead j hj jh fj on)
 
   -- a number that moves fills the hole, and its old slot is the hole
-  pub moves : {n : ℕ} {m : M} {h i : ℕ} → Shifting (suc n) m h i → get m i ≢ 0 → dist size h i ≤ dist size (home (get m i)) i → Shifting n (put m h (get m i)) i (next size i)
+  pub moves : {n : ℕ} {m : M} {h i : ℕ} → Shifting (suc n) m h i → get m i ≢ 0 → dist size h i ≤ dist size (home (get m i)) i
+      → Shifting n (put m h (get m i)) i (next size i)
   moves {n} {m} {h} {i} s full st =
       record {
         ok = ok-put m h (get m i) (s .ok) (s .h-lt) (fit-get m i (s .ok));

@@ -1,4 +1,4 @@
--- Lawful tables: what is put into a slot is what is read there, and no other slot changes. Sums over the slots. Assumes nothing.
+-- Lawful tables: what is put into a slot is what is read there, and no other slot changes. Sums over the slots.
 use Prim.Native.Nat.{ℕ, zero, suc, _+_, _≤_, _<_}
 use mathlib.Core.Path.{_≡_, refl}
 use mathlib.Core.Logic.{⊎-elim, _≢_}

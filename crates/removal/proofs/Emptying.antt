@@ -1,4 +1,4 @@
--- What the loop that empties a slot keeps: what is left to do gives the same as the whole. Then a removal step by step. Assumes nothing.
+-- What the loop that empties a slot keeps: what is left to do gives the same as the whole. Then a removal step by step.
 use Prim.Native.Nat.{ℕ, _-_, _≤_, _<_}
 use mathlib.Core.List.{List}
 use mathlib.Core.Path.{_≡_, refl, ap, sym, _∙_}
@@ -88,7 +88,8 @@ module _ (z : Shape) (t : ℕ) where
     pub emptying-out : left ≤ 0 → {out : List ℕ} → out ≡ put z img (tier t (slot hole)) 0 → out ≡ remove (slotsOf z t) img₀ j
     emptying-out h r = r ∙ sym (shift-out (slotsOf z t) left img hole i h) ∙ w .is
 
-    module _ (v : ℕ) (e : v ≡ slotAt z img t i) (ne : v ≢ 0) (pos : 0 < left) (i′ : ℕ) (ei : i′ ≡ next slots i) (r : Bool) (d : Decides r (Stays settings v hole i)) where
+    module _ (v : ℕ) (e : v ≡ slotAt z img t i) (ne : v ≢ 0) (pos : 0 < left) (i′ : ℕ) (ei : i′ ≡ next slots i) (r : Bool)
+        (d : Decides r (Stays settings v hole i)) where
       pub emptying-stays : r ≡ true → {img′ : List ℕ} {hole′ : ℕ} → img′ ≡ img → hole′ ≡ hole → Emptying j img₀ img′ i′ hole′ (left - 1)
       emptying-stays q em eh =
           rw (em, eh, ei)
@@ -96,7 +97,10 @@ module _ (z : Shape) (t : ℕ) where
             long = w .long;
             i-lt = next-lt slots (w .i-lt);
             hole-lt = w .hole-lt;
-            is = sym (shift-stays (slotsOf z t) left (left - 1) img hole i (omega arith) (λ q. ne (e ∙ q)) (stays-yes img hole i v e (decided-true r d q))) ∙ w .is;
+            is =
+                sym (shift-stays (slotsOf z t) left (left - 1) img hole i (omega arith) (λ q. ne (e ∙ q))
+                (stays-yes img hole i v e (decided-true r d q)))
+                ∙ w .is;
           })
 
       pub emptying-moves : r ≡ false → {img′ : List ℕ} {hole′ : ℕ} → img′ ≡ put z img (tier t (slot hole)) v → hole′ ≡ i
@@ -107,7 +111,10 @@ module _ (z : Shape) (t : ℕ) where
             long = length-put z img (tier t (slot hole)) (slotAt z img t i) ∙ w .long;
             i-lt = next-lt slots (w .i-lt);
             hole-lt = w .i-lt;
-            is = sym (shift-moves (slotsOf z t) left (left - 1) img hole i (omega arith) (λ q. ne (e ∙ q)) (stays-no img hole i v e (decided-false r d q))) ∙ w .is;
+            is =
+                sym (shift-moves (slotsOf z t) left (left - 1) img hole i (omega arith) (λ q. ne (e ∙ q))
+                (stays-no img hole i v e (decided-false r d q)))
+                ∙ w .is;
           })
 
 -- the three steps of a removal, where the code has the image after each

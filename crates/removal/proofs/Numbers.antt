@@ -1,10 +1,9 @@
--- Which numbers the slots of a tier hold after a removal, and the sums over them. Assumes nothing.
+-- Which numbers the slots of a tier hold after a removal, and the sums over them.
 use Prim.Native.Nat.{ℕ, _+_, _≤_, _<_}
 use mathlib.Core.List.{List}
 use mathlib.Core.Path.{_≡_, refl, ap, sym, _∙_}
 use mathlib.Core.Logic.{⊎-elim, _≢_}
 use native.Mathlib.Omega.{arith}
-use borrow.Author.Tests.{ne-eqb}
 use Rattle.lists.specs.Cases.{same-or}
 use Rattle.settings.specs.declared.Settings.{Settings}
 use Rattle.layout.specs.declared.Shape.{Shape}
@@ -89,7 +88,15 @@ module _ {z : Shape} {img : List ℕ} {s t j c n : ℕ} (w : Removable z img s t
 
   -- what is known of every sum
   pub sums : (f : ℕ → ℕ) → total (slotsOf z t) (ifFull f) new slots + f (slotAt z img t j) ≡ total (slotsOf z t) (ifFull f) img slots
-  sums f = omega (arith, gone .totals (ifFull f), empty-is f 0 refl, ap (ifFull f) (slot-kept j (w .slotIn)), full-is f (slotAt z img t j) (w .full), table-same z t img old f f slot-kept (λ k hk fk. refl))
+  sums f =
+      omega (
+        arith,
+        gone .totals (ifFull f),
+        empty-is f 0 refl,
+        ap (ifFull f) (slot-kept j (w .slotIn)),
+        full-is f (slotAt z img t j) (w .full),
+        table-same z t img old f f slot-kept (λ k hk fk. refl),
+      )
 
   pub new-empty : SomeEmpty z new t
   new-empty =

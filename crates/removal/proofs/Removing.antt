@@ -1,4 +1,4 @@
--- A removal of a live entry: the image stays sound, the one pair is gone, and marks and counts follow. Assumes nothing.
+-- A removal of a live entry: the image stays sound, the one pair is gone, and marks and counts follow.
 use Prim.Native.Nat.{ℕ, suc, _+_, _≤_, _<_}
 use mathlib.Core.List.{List, List·Memᴰ}
 use mathlib.Core.Path.{_≡_, refl, ap, sym, _∙_, subst}
@@ -70,7 +70,8 @@ module _ (z : Shape) (img : List ℕ) (sound : SoundImage z img) (e : Live) (m :
   sound-between : SoundBut z between tier
   sound-between =
       tier-replaced z img segment tier (found .segmentIn) (sound-but z img sound tier) (found .tierIn) between only
-      (again removable (found .tierIn) (sound .entries .keysOnce segment (found .segmentIn)) (sound .chunks .tiersFit segment (found .segmentIn) tier (found .tierIn) .marks))
+      (again removable (found .tierIn) (sound .entries .keysOnce segment (found .segmentIn))
+      (sound .chunks .tiersFit segment (found .segmentIn) tier (found .tierIn) .marks))
 
   after-only : OnlyTier z between (recount z between tier) tier
   after-only = recount-only z between segment tier (found .segmentIn) sound-between still
@@ -96,7 +97,8 @@ module _ (z : Shape) (img : List ℕ) (sound : SoundImage z img) (e : Live) (m :
   unfolding removeAt
   removal-mark-in i lo hi = after-tier .marks i (omega (arith, range-in removable)) ∙ mark-in removable i lo hi
 
-  pub removal-mark-out : (i : ℕ) → i < z .settings .chunks → (i < e .chunk) ⊎ (e .chunk + e .chunks ≤ i) → mark z (removeEntry z img e) (e .tier) i ≡ mark z img (e .tier) i
+  pub removal-mark-out : (i : ℕ) → i < z .settings .chunks → (i < e .chunk) ⊎ (e .chunk + e .chunks ≤ i)
+      → mark z (removeEntry z img e) (e .tier) i ≡ mark z img (e .tier) i
   unfolding removeAt
   removal-mark-out i h o = after-tier .marks i h ∙ mark-out removable i h o
 
@@ -107,7 +109,13 @@ module _ (z : Shape) (img : List ℕ) (sound : SoundImage z img) (e : Live) (m :
   pub removal-full : suc (length (fullSlots z (removeEntry z img e) (e .tier))) ≡ length (fullSlots z img (e .tier))
   unfolding removeAt
   removal-full =
-      omega (arith, ap length (same-full z between (recount z between tier) tier after-tier), full-total z between tier, full-total z img tier, sums removable (λ v. 1))
+      omega (
+        arith,
+        ap length (same-full z between (recount z between tier) tier after-tier),
+        full-total z between tier,
+        full-total z img tier,
+        sums removable (λ v. 1),
+      )
 
   pub removal-full-other : (u : ℕ) → IsTier z u → u ≢ e .tier → length (fullSlots z (removeEntry z img e) u) ≡ length (fullSlots z img u)
   unfolding removeAt

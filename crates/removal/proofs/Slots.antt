@@ -1,4 +1,4 @@
--- What stays where only slots and marks of one tier are written. Assumes nothing.
+-- What stays where only slots and marks of one tier are written.
 use Prim.Native.Nat.{ℕ, _+_, _-_, _*_, _≤_, _<_}
 use mathlib.Core.List.{List}
 use mathlib.Core.Path.{_≡_, refl, _∙_}
@@ -34,7 +34,8 @@ pub record Stays (z : Shape) (img img′ : List ℕ) (t : ℕ) : Type 0 where
   pub bytes : (u : ℕ) → IsTier z u → SameBytes z img img′ u
 
 whole-cut : (z : Shape) (img img′ : List ℕ) (u : ℕ)
-    → cut img′ (chunkAt z u 0) ((z .settings .chunks - 0) * z .settings .chunkSize) ≡ cut img (chunkAt z u 0) ((z .settings .chunks - 0) * z .settings .chunkSize)
+    → cut img′ (chunkAt z u 0) ((z .settings .chunks - 0) * z .settings .chunkSize)
+    ≡ cut img (chunkAt z u 0) ((z .settings .chunks - 0) * z .settings .chunkSize)
     → SameBytes z img img′ u
 whole-cut z img img′ u e = let n : z .settings .chunks - 0 ≡ z .settings .chunks = omega arith in rw n at e
 
@@ -46,7 +47,11 @@ module _ {z : Shape} {len : ℕ} (framed : Framed z len) (t : ℕ) (is : IsTier 
         long = length-put z img′ (tier t (slot j)) v ∙ s .long;
         places = λ p i ns. get-other framed img′ (tier t (slot j)) v p (is, h) i (ns j) ∙ s .places p i ns;
         marks = λ u i iu k. mark-put-other framed img′ (tier t (slot j)) v u i (is, h) (λ b. by-kind (omega arith)) iu k ∙ s .marks u i iu k;
-        bytes = λ u iu. whole-cut z img′ _ u (cut-put-chunks framed img′ (tier t (slot j)) v u 0 (is, h) (λ b. by-kind (omega arith)) iu (omega arith)) ∙ s .bytes u iu;
+        bytes =
+            λ u iu.
+            whole-cut z img′ _ u
+            (cut-put-chunks framed img′ (tier t (slot j)) v u 0 (is, h) (λ b. by-kind (omega arith)) iu (omega arith))
+            ∙ s .bytes u iu;
       }
 
   pub remove-stays : (img : List ℕ) (j : ℕ) → Image z img → j < z .settings .slots → Stays z img (remove (slotsOf z t) img j) t
@@ -62,7 +67,8 @@ cleared z img t c n = putMarks z img t c n 0
 abbrev pub without : Shape → List ℕ → ℕ → ℕ → ℕ → ℕ → List ℕ
 without z img t j c n = remove (slotsOf z t) (cleared z img t c n) j
 
-module _ {z : Shape} {img : List ℕ} (im : Image z img) (t : ℕ) (is : IsTier z t) (j c n : ℕ) (hj : j < z .settings .slots) (fits : c + n ≤ z .settings .chunks) where
+module _ {z : Shape} {img : List ℕ} (im : Image z img) (t : ℕ) (is : IsTier z t) (j c n : ℕ) (hj : j < z .settings .slots)
+    (fits : c + n ≤ z .settings .chunks) where
   abbrev old : List ℕ
   old = cleared z img t c n
 
@@ -91,7 +97,9 @@ module _ {z : Shape} {img : List ℕ} (im : Image z img) (t : ℕ) (is : IsTier 
   same-global f = same-place (global f) tt (λ k e. let y : _≡_ {A = ℕ} 0 1 = cc in omega arith) (λ b e. let y : _≡_ {A = ℕ} 0 1 = cc in omega arith)
 
   same-counter : (f : Counter) (u : ℕ) → IsTier z u → get z new (tier u (counter f)) ≡ get z img (tier u (counter f))
-  same-counter f u iu = same-place (tier u (counter f)) (iu, tt) (λ k e. let y : _≡_ {A = ℕ} 0 1 = cc in omega arith) (λ b e. let y : _≡_ {A = ℕ} 0 1 = cc in omega arith)
+  same-counter f u iu =
+      same-place (tier u (counter f)) (iu, tt) (λ k e. let y : _≡_ {A = ℕ} 0 1 = cc in omega arith)
+      (λ b e. let y : _≡_ {A = ℕ} 0 1 = cc in omega arith)
 
   same-slots : (u : ℕ) → IsTier z u → u ≢ t → (k : ℕ) → k < z .settings .slots → slotAt z new u k ≡ slotAt z img u k
   same-slots u iu ne k hk = same-place (tier u (slot k)) (iu, hk) (λ i e. ne (cc)) (λ b. by-kind (omega arith))

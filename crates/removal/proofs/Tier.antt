@@ -1,4 +1,4 @@
--- The tier that a slot was removed from fits the rules again, but for its counters. Assumes nothing.
+-- The tier that a slot was removed from fits the rules again, but for its counters.
 use Prim.Native.Nat.{ℕ, _+_, _≤_, _<_}
 use mathlib.Core.List.{List, List·Memᴰ}
 use mathlib.Core.Path.{_≡_, refl, ap, ap₂, sym, _∙_}
@@ -120,7 +120,8 @@ module _ {z : Shape} {img : List ℕ} {s t j c n : ℕ} (w : Removable z img s t
       ap (λ (x : Stored). in-range (chunkOf z img′ t k) (chunksFor settings (entryOf x .keyLength) (entryOf x .valueLength)) i)
       (same-stored z img img′ t b (chunkOf z img′ t k))
 
-  covered : (img′ : List ℕ) → SameBytes z img img′ t → (i : ℕ) → howMany (liveIn z img′ s t) (covers i) ≡ Table·total (slotsOf z t) (ifFull (weight i)) img′ slots
+  covered : (img′ : List ℕ) → SameBytes z img img′ t → (i : ℕ)
+      → howMany (liveIn z img′ s t) (covers i) ≡ Table·total (slotsOf z t) (ifFull (weight i)) img′ slots
   covered img′ b i =
       howMany-total (liveIn z img′ s t) (covers i)
       ∙ liveIn-total z img′ s t (λ e. one-if (covers i e)) (weight i) (λ k hk fk. by-number img′ b i k)
@@ -143,7 +144,8 @@ module _ {z : Shape} {img : List ℕ} {s t j c n : ℕ} (w : Removable z img s t
   pub mark-out : (i : ℕ) → i < chunks → (i < c) ⊎ (c + n ≤ i) → mark z new t i ≡ mark z img t i
   mark-out i h o = new-mark i h ∙ mark-putMarks-out z img t c n 0 i (omega arith) o
 
-  again-marks : Below chunks (λ i. howMany (liveIn z img s t) (covers i) ≡ mark z img t i) → Below chunks (λ i. howMany (liveIn z new s t) (covers i) ≡ mark z new t i)
+  again-marks : Below chunks (λ i. howMany (liveIn z img s t) (covers i) ≡ mark z img t i)
+      → Below chunks (λ i. howMany (liveIn z new s t) (covers i) ≡ mark z new t i)
   again-marks marks i h =
       ⊎-elim
       (λ (a : i < c). out (inl a))
@@ -157,5 +159,6 @@ module _ {z : Shape} {img : List ℕ} {s t j c n : ℕ} (w : Removable z img s t
       out : (i < c) ⊎ (c + n ≤ i) → howMany (liveIn z new s t) (covers i) ≡ mark z new t i
       out o = omega (arith, fewer i, range-no c n i o, mark-out i h o, marks i h)
 
-  pub again : List·Memᴰ t (chain z img s) → KeysOnce z img s → Below chunks (λ i. howMany (liveIn z img s t) (covers i) ≡ mark z img t i) → TierAgain z img new s t
+  pub again : List·Memᴰ t (chain z img s) → KeysOnce z img s → Below chunks (λ i. howMany (liveIn z img s t) (covers i) ≡ mark z img t i)
+      → TierAgain z img new s t
   again mt once marks = record { fits = again-fits; marks = again-marks marks; own = again-own mt once; apart = again-apart mt once }

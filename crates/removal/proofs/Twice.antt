@@ -1,4 +1,4 @@
--- Sums over a table: two slots add both, and where at most one slot adds the sum is at most 1. Assumes nothing.
+-- Sums over a table: two slots add both, and where at most one slot adds the sum is at most 1.
 use Prim.Native.Nat.{ℕ, zero, suc, _+_, _≤_, _<_}
 use mathlib.Core.Path.{_≡_}
 use mathlib.Core.Logic.{⊎-elim, _≢_}

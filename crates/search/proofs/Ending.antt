@@ -1,4 +1,4 @@
--- Where the search for the key of a full slot ends: at that slot or before it. Assumes nothing.
+-- Where the search for the key of a full slot ends: at that slot or before it.
 use Prim.Native.Nat.{ℕ, suc, _+_, _-_, _≤_, _<_}
 use mathlib.Core.List.{List}
 use mathlib.Core.Path.{_≡_, refl, ap, sym, _∙_, subst}
@@ -96,7 +96,9 @@ module _ (z : Shape) (img key : List ℕ) (t : ℕ) where
       pub reaching-here : IsTier z t → slotAt z img t (seekIn z img key t) ≢ 0 → u ≡ t → search z img key ≡ At t (seekIn z img key t)
       reaching-here is full q =
           let ne : u ≢ 0 = omega (arith, is) in
-          let f : At u (seekIn z img key u) ≡ search z img key = searching-found z img key (w .searching) h ne (seekIn z img key u) (slotAt z img u (seekIn z img key u)) refl refl (rw q full) in
+          let f : At u (seekIn z img key u) ≡ search z img key =
+          searching-found z img key (w .searching) h ne (seekIn z img key u) (slotAt z img u (seekIn z img key u)) refl refl (rw q full)
+          in
           sym (rw q at f)
 
       module _ (ne : u ≢ 0) where
@@ -126,9 +128,11 @@ module _ (z : Shape) (img : List ℕ) (t j : ℕ) where
 
   module _ (e : seekIn z img own t ≡ j) where
     -- in the first tier of its chain a slot is met at once
-    pub lands-first : (s : ℕ) → EntryFits z img s t j → s < segments → ChainTiers z img → IsTier z t → slotAt z img t j ≢ 0 → t ≡ s + 1 → search z img own ≡ At t j
+    pub lands-first : (s : ℕ) → EntryFits z img s t j → s < segments → ChainTiers z img → IsTier z t → slotAt z img t j ≢ 0 → t ≡ s + 1
+        → search z img own ≡ At t j
     lands-first s fits hs ts is full q =
-        reaching-here z img own t (reaching-starts z img own t (tiers z) (s + 1) s refl refl (sym (fits .hashed .segmentAgrees)) hs ts) (omega (arith, segments-le z img)) is
+        reaching-here z img own t (reaching-starts z img own t (tiers z) (s + 1) s refl refl (sym (fits .hashed .segmentAgrees)) hs ts)
+        (omega (arith, segments-le z img)) is
         (rw e full)
         (sym q)
         ∙ ap (At t) e
@@ -140,5 +144,6 @@ module _ (z : Shape) (img : List ℕ) (t j : ℕ) where
 
       pub lands-decided : (b : Bool) → Decides b (search z img k ≡ At t (seekIn z img k t)) → Decides b (search z img own ≡ At t j)
       lands-decided b d =
-          let d₁ : Decides b (search z img own ≡ At t (seekIn z img own t)) = subst (λ (x : List ℕ). Decides b (search z img x ≡ At t (seekIn z img x t))) ek d in
+          let d₁ : Decides b (search z img own ≡ At t (seekIn z img own t)) =
+          subst (λ (x : List ℕ). Decides b (search z img x ≡ At t (seekIn z img x t))) ek d in
           subst (λ (x : ℕ). Decides b (search z img own ≡ At t x)) e d₁

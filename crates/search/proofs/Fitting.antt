@@ -1,4 +1,4 @@
--- From the tests of the code to the rules of slots and entries. Assumes nothing.
+-- From the tests of the code to the rules of slots and entries.
 use Prim.Native.Nat.{ℕ, _+_, _-_, _≤_, _<_}
 use mathlib.Core.List.{List}
 use mathlib.Core.Path.{_≡_, refl, ap, sym, _∙_, subst}
@@ -23,7 +23,7 @@ use Rattle.search.specs.declared.Found.the-variants.{At, Absent}
 use Rattle.search.specs.declared.rules.Slot.{Slot}
 use Rattle.search.specs.declared.rules.Slot.the-variants.{Fits}
 use Rattle.search.specs.declared.rules.Slot.the-variants as slot
-use Rattle.search.specs.Search.{search, ChainTiers}
+use Rattle.search.specs.Search.{ChainTiers}
 use Rattle.search.specs.Rules.{IsWhole, Hashed, keyAt, EntryFits, SlotsFit, EntriesFit, Lands, SlotHolds, SlotSays}
 use Rattle.search.proofs.Landing.{lands-once, lands-all-reached, all-land}
 
@@ -60,7 +60,8 @@ module _ (z : Shape) (img : List ℕ) (s t j : ℕ) where
       pub key-long : 1024 < e .keyLength → EntryFits z img s t j → ⊥
       key-long h f = omega (arith, f .keyLength, ap (λ (x : Entry). x .keyLength) entry-is)
 
-      chunks-is : (n : ℕ) → n ≡ chunksFor settings (e .keyLength) (e .valueLength) → n ≡ chunksFor settings (entryAt z img t j .keyLength) (entryAt z img t j .valueLength)
+      chunks-is : (n : ℕ) → n ≡ chunksFor settings (e .keyLength) (e .valueLength)
+          → n ≡ chunksFor settings (entryAt z img t j .keyLength) (entryAt z img t j .valueLength)
       chunks-is n q = q ∙ ap (λ (x : Entry). chunksFor settings (x .keyLength) (x .valueLength)) (sym entry-is)
 
       pub too-many : (n : ℕ) → n ≡ chunksFor settings (e .keyLength) (e .valueLength) → mostChunks < n → EntryFits z img s t j → ⊥
@@ -76,7 +77,8 @@ module _ (z : Shape) (img : List ℕ) (s t j : ℕ) where
       pub hash-wrong : (Hashed settings s v (keyOf img e) → ⊥) → EntryFits z img s t j → ⊥
       hash-wrong b f = b (rw (ev, key-is) (f .hashed))
 
-      pub entry-right : slotRest settings v ≡ 0 → 1 ≤ e .keyLength → e .keyLength ≤ 1024 → (n : ℕ) → n ≡ chunksFor settings (e .keyLength) (e .valueLength) → n ≤ mostChunks
+      pub entry-right : slotRest settings v ≡ 0 → 1 ≤ e .keyLength → e .keyLength ≤ 1024 → (n : ℕ)
+          → n ≡ chunksFor settings (e .keyLength) (e .valueLength) → n ≤ mostChunks
           → c + n ≤ chunks → Hashed settings s v (keyOf img e) → EntryFits z img s t j
       entry-right r lo hi n q most end h =
           let ke : entryAt z img t j .keyLength ≡ e .keyLength = ap (λ (x : Entry). x .keyLength) entry-is in
@@ -93,7 +95,8 @@ module _ (z : Shape) (img : List ℕ) (s t j : ℕ) where
           }
 
       -- with the chunks that it covers
-      pub entry-says : (n : ℕ) → n ≡ chunksFor settings (e .keyLength) (e .valueLength) → EntryFits z img s t j → SlotSays z img (EntryFits z img s t j) t j (Fits c n)
+      pub entry-says : (n : ℕ) → n ≡ chunksFor settings (e .keyLength) (e .valueLength) → EntryFits z img s t j
+          → SlotSays z img (EntryFits z img s t j) t j (Fits c n)
       entry-says n q f = (f, (chunk-is, chunks-is n q))
 
 -- ---- where a search ended
@@ -105,7 +108,8 @@ pub same-tier : (r : Found) (t j u k : ℕ) → r ≡ At t j → r ≡ At u k �
 same-tier r t j u k p q = cc
 
 module _ (z : Shape) (img : List ℕ) (t j : ℕ) where
-  room-of : Framed z (length img) → IsTier z t → (r : Stored) → stored z img t (chunkOf z img t j) ≡ r → IsWhole r → entryAt z img t j .keyAt + entryAt z img t j .keyLength ≤ length img
+  room-of : Framed z (length img) → IsTier z t → (r : Stored) → stored z img t (chunkOf z img t j) ≡ r → IsWhole r
+      → entryAt z img t j .keyAt + entryAt z img t j .keyLength ≤ length img
   unfolding entryAt
   room-of fr is (Whole e) q w =
       let same : entryAt z img t j ≡ e = ap entryOf q in
@@ -113,7 +117,8 @@ module _ (z : Shape) (img : List ℕ) (t j : ℕ) where
   room-of fr is Broken q w = absurd w
 
   -- the key of a full slot stands within the image
-  pub key-room : Framed z (length img) → IsTier z t → IsWhole (stored z img t (chunkOf z img t j)) → entryAt z img t j .keyAt + entryAt z img t j .keyLength ≤ length img
+  pub key-room : Framed z (length img) → IsTier z t → IsWhole (stored z img t (chunkOf z img t j))
+      → entryAt z img t j .keyAt + entryAt z img t j .keyLength ≤ length img
   key-room fr is w = room-of fr is (stored z img t (chunkOf z img t j)) refl w
 
   pub key-part : (e : Entry) → e ≡ entryAt z img t j → take (e .keyAt + e .keyLength - e .keyAt) (drop (e .keyAt) img) ≡ keyAt z img t j

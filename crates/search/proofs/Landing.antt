@@ -1,35 +1,31 @@
--- Each full slot's key is found in that slot exactly where every slot is reached and no key has two slots. Assumes nothing.
-use Prim.Native.Nat.{ℕ, zero, suc, _+_, _≤_, _<_}
+-- Each full slot's key is found in that slot exactly where every slot is reached and no key has two slots.
+use Prim.Native.Nat.{ℕ, _≤_, _<_}
 use mathlib.Core.List.{List, [], _∷_, List·Memᴰ, List·Memᴰ·head, List·Memᴰ·tail, List·Memᴰ·cases-cons, List·Memᴰ·not-nil}
-use mathlib.Core.Path.{_≡_, refl, ap, sym, _∙_, subst}
-use mathlib.Core.Logic.{_⊎_, inl, inr, ⊎-elim, _≢_}
-use mathlib.Core.Bool.{Bool, true, false, _&&_, _||_, false≢true}
+use mathlib.Core.Path.{_≡_, refl, ap, sym, _∙_}
+use mathlib.Core.Logic.{⊎-elim, _≢_}
+use mathlib.Core.Bool.{true, false, false≢true}
 use native.Mathlib.Omega.{arith}
 use native.Mathlib.Nat.{mod-lt}
 use lib.Dec.{eqb}
-use lib.ListN.{length}
-use borrow.Author.Tests.{eq-eqb, ne-eqb, eqb-true, eqb-false}
+use borrow.Author.Tests.{eq-eqb, ne-eqb}
 use Rattle.lists.specs.Cases.{by-test, same-or, lt-or}
 use Rattle.lists.specs.Quantify.{Below, Every}
-use Rattle.words.specs.Bytes.{same}
 use Rattle.words.proofs.Bytes.{same-eq, same-true}
 use Rattle.settings.specs.declared.Settings.{Settings}
 use Rattle.layout.specs.declared.Shape.{Shape}
 use Rattle.layout.specs.Tiers.{IsTier}
-use Rattle.layout.specs.Frame.{Framed, Image}
+use Rattle.layout.specs.Frame.{Image}
 use Rattle.chains.specs.Chains.{chain}
 use Rattle.probe.specs.Ring.{dist}
-use Rattle.probe.specs.Table.{Table, Empty, Good, empty}
-use Rattle.probe.specs.Search.{seek, ends}
+use Rattle.probe.specs.Table.{Empty, Good}
+use Rattle.probe.specs.Search.{ends}
 use Rattle.probe.proofs.Ring.{dist-inj}
-use Rattle.probe.proofs.Search.{First, seek-first, seek-lt, seek-hit, seek-finds}
-use Rattle.entries.specs.Keys.{segmentOf, lookupKey, start, slotKey, slotChunk}
-use Rattle.entries.specs.Stored.{stored, entryOf, keyOf}
-use Rattle.entries.specs.Live.{slotAt, chunkOf, entryAt}
-use Rattle.search.specs.declared.Found.{Found}
+use Rattle.probe.proofs.Search.{First, seek-first, seek-hit, seek-finds}
+use Rattle.entries.specs.Keys.{segmentOf, lookupKey, start, slotKey}
+use Rattle.entries.specs.Live.{slotAt, entryAt}
 use Rattle.search.specs.declared.Found.the-variants.{At, Absent}
 use Rattle.search.specs.Search.{slotsOf, hits, seekIn, searchFrom, search}
-use Rattle.search.specs.Rules.{keyAt, startAt, Reached, EntryFits, SomeEmpty, SlotsFit, TierFits, KeyOnce, KeysOnce, Lands}
+use Rattle.search.specs.Rules.{keyAt, startAt, Reached, SomeEmpty, SlotsFit, KeysOnce, Lands}
 use Rattle.search.proofs.Slots.{slots-lawful}
 
 module _ (z : Shape) (img : List ℕ) where
@@ -57,7 +53,8 @@ module _ (z : Shape) (img : List ℕ) where
     unfolding searchFrom
     search-here u i t ts h = rw (ne-eqb _ _ h, searchFrom)
 
-    pub search-on : (u i t : ℕ) (ts : List ℕ) → slotAt z img t (seekIn z img key t) ≡ 0 → searchFrom z img key u i (t ∷ ts) ≡ searchFrom z img key t (seekIn z img key t) ts
+    pub search-on : (u i t : ℕ) (ts : List ℕ) → slotAt z img t (seekIn z img key t) ≡ 0
+        → searchFrom z img key u i (t ∷ ts) ≡ searchFrom z img key t (seekIn z img key t) ts
     unfolding searchFrom
     search-on u i t ts h = rw (eq-eqb _ _ h, searchFrom)
 
@@ -66,12 +63,14 @@ module _ (z : Shape) (img : List ℕ) where
     search-end u i = refl
 
     -- what is found is where the search in its tier ended
-    pub found-at : (u i : ℕ) (ts : List ℕ) (t j : ℕ) → searchFrom z img key u i ts ≡ At t j → (seekIn z img key t ≡ j) × ((slotAt z img t j ≢ 0) × List·Memᴰ t ts)
+    pub found-at : (u i : ℕ) (ts : List ℕ) (t j : ℕ) → searchFrom z img key u i ts ≡ At t j
+        → (seekIn z img key t ≡ j) × ((slotAt z img t j ≢ 0) × List·Memᴰ t ts)
     found-at u i [] t j e = absurd (let f : Absent u i ≡ At t j = sym (search-end u i) ∙ e in let q : _≡_ {A = ℕ} 0 1 = cc in omega arith)
     found-at u i (x ∷ ts) t j e =
         ⊎-elim
         (λ (h : slotAt z img x (seekIn z img key x) ≡ 0).
-        let r : (seekIn z img key t ≡ j) × ((slotAt z img t j ≢ 0) × List·Memᴰ t ts) = found-at x (seekIn z img key x) ts t j (sym (search-on u i x ts h) ∙ e) in
+        let r : (seekIn z img key t ≡ j) × ((slotAt z img t j ≢ 0) × List·Memᴰ t ts) =
+        found-at x (seekIn z img key x) ts t j (sym (search-on u i x ts h) ∙ e) in
         (r .0, (r .1 .0, List·Memᴰ·tail (r .1 .1))))
         (λ (h : slotAt z img x (seekIn z img key x) ≢ 0).
         let f : At x (seekIn z img key x) ≡ At t j = sym (search-here u i x ts h) ∙ e in
@@ -105,7 +104,9 @@ module _ (z : Shape) (img : List ℕ) where
           (seek-hit (slotsOf z t) (slots-lawful (im .framed) t is) img _ (some .0) (start-lt _) some-empty (hits z img key t) ne)
 
       -- no slot on the way is empty
-      pub way-full : (k : ℕ) → k < slots → dist slots (start settings (lookupKey settings key)) k < dist slots (start settings (lookupKey settings key)) (seekIn z img key t)
+      pub way-full : (k : ℕ) → k < slots
+          → dist slots (start settings (lookupKey settings key)) k < dist slots (start settings (lookupKey settings key))
+          (seekIn z img key t)
           → slotAt z img t k ≢ 0
       way-full k h d e =
           let b : ends (slotsOf z t) (hits z img key t) img k ≡ false = first .before k h d in
@@ -160,7 +161,8 @@ module _ (z : Shape) (img : List ℕ) where
         (found-at (keyAt z img t j) 0 0 (chain z img (segmentOf settings (keyAt z img t j))) t j (l t mt j hj fj) .0)
 
     -- the search through the tiers ts of the chain, of which t is one
-    module _ (once : KeysOnce z img s) (reached : AllReached s) (t : ℕ) (mt : List·Memᴰ t (chain z img s)) (j : ℕ) (hj : j < slots) (fj : slotAt z img t j ≢ 0) where
+    module _ (once : KeysOnce z img s) (reached : AllReached s) (t : ℕ) (mt : List·Memᴰ t (chain z img s)) (j : ℕ) (hj : j < slots)
+        (fj : slotAt z img t j ≢ 0) where
       lands-from : (ts : List ℕ) → Every ts (λ u. List·Memᴰ u (chain z img s)) → List·Memᴰ t ts → (u i : ℕ)
           → searchFrom z img (keyAt z img t j) u i ts ≡ At t j
       lands-from [] part m u i = absurd (List·Memᴰ·not-nil m)
@@ -173,7 +175,8 @@ module _ (z : Shape) (img : List ℕ) where
           ⊎-elim
           (λ (e : t ≡ x).
           absurd
-          (seek-full im t (tiersOf t mt) (fits t mt .someEmpty) (keyAt z img t j) (reached t mt) j hj fj (sym (fits t mt .full j hj fj .hashed .lookupAgrees)) refl
+          (seek-full im t (tiersOf t mt) (fits t mt .someEmpty) (keyAt z img t j) (reached t mt) j hj fj
+          (sym (fits t mt .full j hj fj .hashed .lookupAgrees)) refl
           (rw (← e) at h)))
           (λ (mr : List·Memᴰ t ts). search-on (keyAt z img t j) u i x ts h ∙ lands-from ts (λ y my. part y (List·Memᴰ·tail my)) mr x k)
           (List·Memᴰ·cases-cons m))

@@ -1,12 +1,11 @@
--- What the loops of `seek` and `search` keep: what is left gives the same as the whole. Assumes nothing.
-use Prim.Native.Nat.{ℕ, zero, suc, _+_, _-_, _≤_, _<_}
-use mathlib.Core.List.{List, [], _∷_, List·Memᴰ, List·Memᴰ·head, List·Memᴰ·tail}
-use mathlib.Core.Path.{_≡_, refl, ap, ap₂, sym, _∙_, subst}
+-- What the loops of `seek` and `search` keep: what is left gives the same as the whole.
+use Prim.Native.Nat.{ℕ, suc, _+_, _-_, _≤_, _<_}
+use mathlib.Core.List.{List, _∷_, List·Memᴰ·head, List·Memᴰ·tail}
+use mathlib.Core.Path.{_≡_, refl, ap, sym, _∙_}
 use mathlib.Core.Logic.{_≢_}
-use mathlib.Core.Bool.{Bool, true, false, _&&_, _||_}
+use mathlib.Core.Bool.{Bool, true, false}
 use native.Mathlib.Omega.{arith}
 use lib.Dec.{eqb}
-use lib.ListN.{length, take, drop}
 use borrow.Author.Tests.{eq-eqb, ne-eqb}
 use Rattle.lists.specs.Cases.{by-test}
 use Rattle.lists.specs.Quantify.{Below, Every}
@@ -21,12 +20,10 @@ use Rattle.probe.specs.Search.{probe, seek, ends}
 use Rattle.probe.proofs.Ring.{next-lt}
 use Rattle.probe.proofs.Search.{probe-out, probe-stops, probe-goes}
 use Rattle.entries.specs.declared.Entry.{Entry}
-use Rattle.entries.specs.declared.Stored.{Stored}
 use Rattle.entries.specs.declared.Stored.the-variants.{Whole, Broken}
 use Rattle.entries.specs.Keys.{segmentOf, lookupKey, start, slotKey, slotChunk}
-use Rattle.entries.specs.Stored.{stored, entryOf, keyOf}
+use Rattle.entries.specs.Stored.{stored}
 use Rattle.entries.specs.Live.{slotAt}
-use Rattle.search.specs.declared.Found.{Found}
 use Rattle.search.specs.declared.Found.the-variants.{At, Absent}
 use Rattle.search.specs.Search.{slotsOf, hits, seekIn, searchFrom, search}
 use Rattle.search.proofs.Landing.{search-here, search-on, search-end}
@@ -82,7 +79,10 @@ module _ (z : Shape) (img key : List ℕ) (t : ℕ) where
     seek-turns v e n q pos j ej =
         let h : hits z img key t (slotAt z img t i) ≡ false = ap (hits z img key t) (sym e) ∙ q in
         let s : stop i ≡ false = rw (ne-eqb (slotAt z img t i) 0 (λ x. n (e ∙ x)), h) in
-        record { lt = rw ej (next-lt slots (w .lt)); is = ap (probe slots stop (left - 1)) ej ∙ sym (probe-goes slots stop left (left - 1) i (omega arith) s) ∙ w .is }
+        record {
+          lt = rw ej (next-lt slots (w .lt));
+          is = ap (probe slots stop (left - 1)) ej ∙ sym (probe-goes slots stop left (left - 1) i (omega arith) s) ∙ w .is;
+        }
 
     pub seek-out : left ≤ 0 → i ≡ seekIn z img key t
     seek-out h = sym (probe-out slots stop left i h) ∙ w .is
@@ -98,7 +98,8 @@ module _ (z : Shape) (img key : List ℕ) where
     pub tiersOf : Every (follow z img (most - k) t) (IsTier z)
     pub is : searchFrom z img key u i (follow z img (most - k) t) ≡ search z img key
 
-  pub search-starts : (most t s : ℕ) → most ≡ tiers z → t ≡ s + 1 → s ≡ segmentOf settings key → s < segments → Below segments (λ s. Every (chain z img s) (IsTier z))
+  pub search-starts : (most t s : ℕ) → most ≡ tiers z → t ≡ s + 1 → s ≡ segmentOf settings key → s < segments
+      → Below segments (λ s. Every (chain z img s) (IsTier z))
       → Searching most t 0 0 0
   unfolding search chain
   search-starts most t s em et es h c =

@@ -1,18 +1,15 @@
--- The slots of one tier are a lawful table, with the image itself as its state. Assumes nothing.
-use Prim.Native.Nat.{ℕ, _^_, _%_, _≤_, _<_}
+-- The slots of one tier are a lawful table, with the image itself as its state.
+use Prim.Native.Nat.{ℕ, _^_, _<_}
 use mathlib.Core.List.{List}
-use mathlib.Core.Path.{_≡_, refl, _∙_}
+use mathlib.Core.Path.{_≡_}
 use mathlib.Core.Logic.{_≢_}
 use native.Mathlib.Omega.{arith}
 use native.Mathlib.Nat.{mod-lt, one-le-pow}
-use lib.ListN.{length}
-use Rattle.settings.specs.declared.Settings.{Settings}
 use Rattle.layout.specs.declared.Shape.{Shape}
 use Rattle.layout.specs.Tiers.{IsTier}
-use Rattle.layout.specs.Places.{Place, tier, slot, wide, partWide, In, get, put}
+use Rattle.layout.specs.Places.{tier, slot, wide, partWide, get, put}
 use Rattle.layout.specs.Frame.{Framed, Image}
 use Rattle.layout.proofs.Places.{image-put, get-lt, get-same, get-other}
-use Rattle.probe.specs.Table.{Table}
 use Rattle.probe.proofs.Table.{Lawful}
 use Rattle.search.specs.Search.{slotsOf}
 

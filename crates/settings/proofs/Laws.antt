@@ -1,18 +1,16 @@
--- Laws of the settings block: what is accepted, and what the rules bound. Assumes nothing.
-use Prim.Native.Nat.{ℕ, zero, suc, _+_, _-_, _*_, _^_, _%_, _≤_, _<_}
+-- Laws of the settings block: what is accepted, and what the rules bound.
+use Prim.Native.Nat.{ℕ, suc, _*_, _^_, _≤_, _<_}
 use mathlib.Core.List.{List}
-use mathlib.Core.Path.{_≡_, refl, sym, _∙_, ap}
-use mathlib.Core.Logic.{_⊎_, inl, inr, ⊎-elim}
+use mathlib.Core.Path.{_≡_, refl, sym, _∙_}
+use mathlib.Core.Logic.{⊎-elim}
 use native.Mathlib.Omega.{arith}
-use native.Mathlib.Nat.{pow-suc, mul-le-mul, one-mul, mod-eq-of-lt}
-use native.Mathlib.Numerals.{add-one}
-use lib.Pow.{pow-mono, pow-pos, pow-lt}
+use native.Mathlib.Nat.{pow-suc, mul-le-mul}
+use lib.Pow.{pow-mono, pow-pos}
 use lib.Dec.{eqb}
 use Rattle.lists.specs.Cases.{lt-or, same-or}
 use Rattle.lists.specs.Decide.{Decides}
 use Rattle.lists.proofs.Decides.{decides-eq}
 use Rattle.settings.specs.declared.Settings.{Settings}
-use Rattle.settings.specs.declared.Parsed.{Parsed}
 use Rattle.settings.specs.declared.Parsed.the-variants.{Accepted, BadBlock, BadField}
 use Rattle.settings.specs.Rules.{PowerOfTwo, SlotSize, Valid, largest}
 use Rattle.settings.specs.Decide.{valid?}

@@ -20,7 +20,8 @@ valid? st =
     rule (λ v. v .slotSize) (either (ℕ-discrete (st .slotSize) 4) (ℕ-discrete (st .slotSize) 8)) λ r4.
     rule (λ v. v .slots) (both (powerOfTwo? (st .slots)) (λ _. between? 4 4096 (st .slots))) λ r5.
     rule (λ v. v .keyBits) (between? 1 56 (st .keyBits)) λ r6.
-    rule (λ v. v .chunkBits) (both (between? 1 32 (st .chunkBits)) (λ _. both (decLe (st .keyBits + st .chunkBits) (8 * st .slotSize)) (λ _. decLe (st .chunks) (2 ^ st .chunkBits)))) λ r7.
+    rule (λ v. v .chunkBits) (both (between? 1 32 (st .chunkBits))
+    (λ _. both (decLe (st .keyBits + st .chunkBits) (8 * st .slotSize)) (λ _. decLe (st .chunks) (2 ^ st .chunkBits)))) λ r7.
     rule (λ v. v .lookupSize) (between? (st .slots * st .slotSize) largest (st .lookupSize)) λ r8.
     rule (λ v. v .freeListSize) (between? ((st .chunks + 7) / 8) largest (st .freeListSize)) λ r9.
     rule (λ v. v .innerOffset) (decLe (st .innerOffset) 4096) λ r10.
@@ -31,4 +32,22 @@ valid? st =
     rule (λ v. v .bulkTiers) (between? 1 64 (st .bulkTiers)) λ r15.
     rule (λ v. v .bulkSize) (between? (st .bulkInner + st .bulkTiers * st .tierSize) largest (st .bulkSize)) λ r16.
     rule (λ v. v .mostChunks) (both (between? 1 64 (st .mostChunks)) (λ _. decLe (st .mostChunks) (st .chunks))) λ r17.
-    yes (record { globalAt = r1; segments = r2; headerSize = r3; slotSize = r4; slots = r5; keyBits = r6; chunkBits = r7; lookupSize = r8; freeListSize = r9; innerOffset = r10; chunks = r11; chunkSize = r12; tierSize = r13; bulkInner = r14; bulkTiers = r15; bulkSize = r16; mostChunks = r17 })
+    yes (record {
+      globalAt = r1;
+      segments = r2;
+      headerSize = r3;
+      slotSize = r4;
+      slots = r5;
+      keyBits = r6;
+      chunkBits = r7;
+      lookupSize = r8;
+      freeListSize = r9;
+      innerOffset = r10;
+      chunks = r11;
+      chunkSize = r12;
+      tierSize = r13;
+      bulkInner = r14;
+      bulkTiers = r15;
+      bulkSize = r16;
+      mostChunks = r17;
+    })

@@ -1,4 +1,4 @@
--- Two images that agree on what makes the chains. Assumes nothing.
+-- Two images that agree on what makes the chains.
 use Prim.Native.Nat.{ℕ, zero, suc, _<_}
 use mathlib.Core.List.{List, _∷_, List·Memᴰ·head, List·Memᴰ·tail}
 use mathlib.Core.Path.{_≡_, refl, ap, sym, _∙_, subst}

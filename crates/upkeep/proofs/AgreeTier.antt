@@ -1,4 +1,4 @@
--- Two images that agree on a tier: on its slots, its marks and its chunks. Assumes nothing.
+-- Two images that agree on a tier: on its slots, its marks and its chunks.
 use Prim.Native.Nat.{ℕ, _+_, _-_, _*_, _≤_, _<_}
 use mathlib.Core.List.{List, map}
 use mathlib.Core.Path.{_≡_, refl, ap, sym, _∙_, subst}
@@ -6,7 +6,7 @@ use mathlib.Core.Logic.{_≢_, ⊎-elim}
 use mathlib.Core.Bool.{not}
 use mathlib.Core.Option.{Option}
 use native.Mathlib.Omega.{arith}
-use native.Mathlib.Nat.{div-add-mod', mod-lt, mul-zero}
+use native.Mathlib.Nat.{mul-zero}
 use lib.Dec.{eqb}
 use Rattle.lists.specs.Cases.{same-or}
 use Rattle.lists.specs.Lists.{below, orElse}
@@ -37,7 +37,9 @@ use Rattle.lists.proofs.SameLists.{same-those, same-first, same-map}
 
 -- on the chunks of tier u
 abbrev pub SameBytes : Shape → List ℕ → List ℕ → ℕ → Type 0
-SameBytes z img img′ u = cut img′ (chunkAt z u 0) (z .settings .chunks * z .settings .chunkSize) ≡ cut img (chunkAt z u 0) (z .settings .chunks * z .settings .chunkSize)
+SameBytes z img img′ u =
+    cut img′ (chunkAt z u 0) (z .settings .chunks * z .settings .chunkSize)
+    ≡ cut img (chunkAt z u 0) (z .settings .chunks * z .settings .chunkSize)
 
 pub record SameTier (z : Shape) (img img′ : List ℕ) (u : ℕ) : Type 0 where
   pub slots : Below (z .settings .slots) (λ j. slotAt z img′ u j ≡ slotAt z img u j)
@@ -74,7 +76,8 @@ module _ (z : Shape) (img : List ℕ) (u c : ℕ) where
       (λ (h : chunkSize ≢ 0). omega arith)
       (same-or chunkSize 0)
 
-  chunks-hold : (e : Entry) → WholeAt z img u c e → entrySize settings (e .keyLength) (e .valueLength) ≤ chunksFor settings (e .keyLength) (e .valueLength) * chunkSize
+  chunks-hold : (e : Entry) → WholeAt z img u c e
+      → entrySize settings (e .keyLength) (e .valueLength) ≤ chunksFor settings (e .keyLength) (e .valueLength) * chunkSize
   unfolding chunksFor
   chunks-hold e w = ceil-enough (entrySize settings (e .keyLength) (e .valueLength)) chunkSize (size-pos e w)
 
@@ -89,7 +92,8 @@ module _ (z : Shape) (img : List ℕ) (u c : ℕ) where
         valueTo = omega (arith, w .valueIs, chunks-hold e w, end);
       }
 
-  stored-inside : (r : Stored) → stored z img u c ≡ r → IsWhole r → c + chunksFor settings (entryOf r .keyLength) (entryOf r .valueLength) ≤ chunks → Inside z u (entryOf r)
+  stored-inside : (r : Stored) → stored z img u c ≡ r → IsWhole r
+      → c + chunksFor settings (entryOf r .keyLength) (entryOf r .valueLength) ≤ chunks → Inside z u (entryOf r)
   stored-inside (Whole e) q w h = whole-in-chunks e (whole-sound z img u c e q) h
   stored-inside Broken q w h = absurd w
 
@@ -158,7 +162,8 @@ module _ (z : Shape) (img img′ : List ℕ) (u : ℕ) where
     same-entry : (j : ℕ) → j < slots → entryAt z img′ u j ≡ entryAt z img u j
     unfolding entryAt
     same-entry j h =
-        ap entryOf (ap (λ (x : ℕ). stored z img′ u (slotChunk settings x)) (same .slots j h) ∙ same-stored (same .bytes) (slotChunk settings (slotAt z img u j)))
+        ap entryOf (ap (λ (x : ℕ). stored z img′ u (slotChunk settings x)) (same .slots j h)
+        ∙ same-stored (same .bytes) (slotChunk settings (slotAt z img u j)))
 
     same-liveAt : (s j : ℕ) → j < slots → liveAt z img′ s u j ≡ liveAt z img s u j
     unfolding liveAt

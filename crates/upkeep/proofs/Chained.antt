@@ -1,4 +1,4 @@
--- What fitting chains say of single tiers. Assumes nothing.
+-- What fitting chains say of single tiers.
 use Prim.Native.Nat.{ℕ, suc, _+_, _-_, _*_, _<_}
 use mathlib.Core.List.{List, _∷_, _++_, List·Memᴰ, List·Memᴰ·cases-cons}
 use mathlib.Core.Path.{_≡_, sym, _∙_, subst}
@@ -10,7 +10,6 @@ use Rattle.lists.specs.Lists.{below, howMany, total}
 use Rattle.lists.proofs.Lists.{in-span, span-in, howMany-append}
 use Rattle.lists.proofs.Rows.{row-in}
 use Rattle.lists.proofs.Members.{flatMap-in, in-flatMap}
-use Rattle.settings.specs.declared.Settings.{Settings}
 use Rattle.layout.specs.declared.Shape.{Shape}
 use Rattle.layout.specs.Tiers.{tiers, IsTier, IsExtra}
 use Rattle.layout.specs.Places.{get, tier, counter, segment, order}
@@ -30,7 +29,8 @@ module _ (z : Shape) (img : List ℕ) (fits : ChainsFit z img) where
       subst (λ (u : ℕ). get z img (tier u (counter segment)) ≡ s) (r .2) (fits .segmentsFit s hs .standing (r .0) (r .1) .segmentIs)
 
   -- a tier is in one segment's chain
-  pub chain-segment : (s s′ t : ℕ) → s < z .settings .segments → s′ < z .settings .segments → List·Memᴰ t (chain z img s) → List·Memᴰ t (chain z img s′) → s ≡ s′
+  pub chain-segment : (s s′ t : ℕ) → s < z .settings .segments → s′ < z .settings .segments → List·Memᴰ t (chain z img s)
+      → List·Memᴰ t (chain z img s′) → s ≡ s′
   chain-segment s s′ t hs hs′ m m′ = sym (says-segment s t hs m) ∙ says-segment s′ t hs′ m′
 
   -- and once
@@ -80,7 +80,8 @@ module _ (z : Shape) (img : List ℕ) (fits : ChainsFit z img) where
   pub chained-in : (t : ℕ) → List·Memᴰ t (chained z img) → (s : ℕ) × (s < z .settings .segments) × List·Memᴰ t (chain z img s)
   unfolding chained
   chained-in t m =
-      let r : (s : ℕ) × List·Memᴰ s (below (z .settings .segments)) × List·Memᴰ t (chain z img s) = flatMap-in (chain z img) (below (z .settings .segments)) m in
+      let r : (s : ℕ) × List·Memᴰ s (below (z .settings .segments)) × List·Memᴰ t (chain z img s) =
+      flatMap-in (chain z img) (below (z .settings .segments)) m in
       (r .0, omega (arith, span-in 0 (z .settings .segments) (r .0) (r .1)), r .2)
 
   pub chain-in-tiers : (s t : ℕ) → s < z .settings .segments → List·Memᴰ t (chain z img s) → IsTier z t

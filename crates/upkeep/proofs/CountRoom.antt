@@ -1,4 +1,4 @@
--- The two numbers that a recount writes have room in their places. Assumes nothing.
+-- The two numbers that a recount writes have room in their places.
 use Prim.Native.Nat.{ℕ, _^_, _≤_, _<_}
 use mathlib.Core.List.{List}
 use mathlib.Core.Logic.{⊎-elim}

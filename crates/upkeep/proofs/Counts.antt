@@ -1,4 +1,4 @@
--- How many extra tiers there are, chained and free, and how long a chain can be. Assumes nothing.
+-- How many extra tiers there are, chained and free, and how long a chain can be.
 use Prim.Native.Nat.{ℕ, suc, _+_, _-_, _*_, _≤_, _<_}
 use mathlib.Core.List.{List, [], _∷_, _++_, flatMap, List·Memᴰ, List·Memᴰ·head, List·Memᴰ·tail, List·Memᴰ·not-nil, List·Memᴰ·cases-cons, List·Memᴰ·append-cases}
 use mathlib.Core.Path.{_≡_, refl, ap, sym, _∙_}
@@ -11,7 +11,6 @@ use Rattle.lists.specs.Quantify.{Every}
 use Rattle.lists.proofs.Lists.{in-span, span-in, length-span, howMany-same, howMany-other}
 use Rattle.lists.proofs.Rows.{row-in}
 use Rattle.lists.proofs.Members.{flatMap-in}
-use Rattle.settings.specs.declared.Settings.{Settings}
 use Rattle.layout.specs.declared.Shape.{Shape}
 use Rattle.layout.specs.Tiers.{tiers, IsExtra}
 use Rattle.chains.specs.Chains.{follow, chain, freeHead, freeChain, chainedExtra, ChainsFit}

@@ -1,4 +1,4 @@
--- The frame asks only how long an image is. Assumes nothing.
+-- The frame asks only how long an image is.
 use Prim.Native.Nat.{ℕ}
 use mathlib.Core.Path.{_≡_, sym, subst}
 use Rattle.layout.specs.declared.Shape.{Shape}

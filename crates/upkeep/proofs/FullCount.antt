@@ -1,4 +1,4 @@
--- What the count of a tier's full slots finds, and the counters written one after the other. Assumes nothing.
+-- What the count of a tier's full slots finds, and the counters written one after the other.
 use Prim.Native.Nat.{ℕ, _+_, _≤_, _<_}
 use mathlib.Core.List.{List}
 use mathlib.Core.Path.{_≡_, refl, ap, ap₂, _∙_}

@@ -1,7 +1,7 @@
--- No key stands twice in a sound image, and its pairs are those of its live entries. Assumes nothing.
+-- No key stands twice in a sound image, and its pairs are those of its live entries.
 use Prim.Native.Nat.{ℕ, zero, suc, _+_, _≤_, _<_}
-use mathlib.Core.List.{List, [], _∷_, List·Memᴰ, List·Memᴰ·head, List·Memᴰ·tail, Memᴰ·map, Memᴰ·of-map}
-use mathlib.Core.Path.{_≡_, refl, sym, _∙_, subst}
+use mathlib.Core.List.{List, List·Memᴰ, Memᴰ·map, Memᴰ·of-map}
+use mathlib.Core.Path.{_≡_, sym, _∙_, subst}
 use mathlib.Core.Logic.{⊎-elim, _≢_}
 use mathlib.Core.Bool.{true, false}
 use native.Mathlib.Omega.{arith}
@@ -83,7 +83,8 @@ module _ (z : Shape) (img : List ℕ) (sound : SoundImage z img) (key : List ℕ
   holds-once : {s t j s′ t′ j′ : ℕ} → Holds s t j → Holds s′ t′ j′ → (t ≡ t′) × (j ≡ j′)
   holds-once {s} {t} {j} {s′} {t′} {j′} h h′ =
       let e : s′ ≡ s = sym (holds-segment h′) ∙ holds-segment h in
-      sound .entries .keysOnce s (h .segmentIn) t (h .tierIn) j (h .slotIn) (h .full) t′ (subst (λ (x : ℕ). List·Memᴰ t′ (chain z img x)) e (h′ .tierIn)) j′ (h′ .slotIn) (h′ .full)
+      sound .entries .keysOnce s (h .segmentIn) t (h .tierIn) j (h .slotIn) (h .full) t′
+      (subst (λ (x : ℕ). List·Memᴰ t′ (chain z img x)) e (h′ .tierIn)) j′ (h′ .slotIn) (h′ .full)
       (h .key-is ∙ sym (h′ .key-is))
 
   -- what a slot's number adds
@@ -138,7 +139,8 @@ module _ (z : Shape) (img : List ℕ) (sound : SoundImage z img) (key : List ℕ
       let c : (s : ℕ) × (s < segments) × List·Memᴰ t (chain z img s) = chained-in z img (sound .chains) t m in
       let h : (j : ℕ) × Holds (c .0) t j = weigh-holds (c .0) t (c .1) (c .2) l in
       let sum : total (chained z img) (λ u. 0) + weigh z img (withKey key) t ≡ total (chained z img) (weigh z img (withKey key)) + 0 =
-      total-change (chained z img) t (weigh z img (withKey key)) (λ u. 0) (chained-once z img (sound .chains) (c .0) t (c .1) (c .2)) (other-adds (c .0) t (h .0) (h .1)) in
+      total-change (chained z img) t (weigh z img (withKey key)) (λ u. 0) (chained-once z img (sound .chains) (c .0) t (c .1) (c .2))
+      (other-adds (c .0) t (h .0) (h .1)) in
       omega (arith, sum, total-zero (chained z img), weigh-le (c .0) t (c .1) (c .2))
 
   tiers-once : total (chained z img) (weigh z img (withKey key)) ≤ 1
@@ -146,7 +148,8 @@ module _ (z : Shape) (img : List ℕ) (sound : SoundImage z img) (key : List ℕ
       ⊎-elim
       (λ (e : total (chained z img) (weigh z img (withKey key)) ≡ 0). omega arith)
       (λ (e : total (chained z img) (weigh z img (withKey key)) ≢ 0).
-      let r : (t : ℕ) × List·Memᴰ t (chained z img) × (0 < weigh z img (withKey key) t) = total-some (weigh z img (withKey key)) (chained z img) (omega arith) in
+      let r : (t : ℕ) × List·Memᴰ t (chained z img) × (0 < weigh z img (withKey key) t) =
+      total-some (weigh z img (withKey key)) (chained z img) (omega arith) in
       one-tier (r .0) (r .1) (r .2))
       (same-or (total (chained z img) (weigh z img (withKey key))) 0)
 

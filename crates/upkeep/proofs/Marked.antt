@@ -1,4 +1,4 @@
--- The marked chunks of a sound image are as many as its pairs need. Assumes nothing.
+-- The marked chunks of a sound image are as many as its pairs need.
 use Prim.Native.Nat.{ℕ, zero, suc, _+_, _≤_, _<_}
 use mathlib.Core.List.{List, [], _∷_, flatMap, List·Memᴰ, List·Memᴰ·head, List·Memᴰ·tail}
 use mathlib.Core.Path.{_≡_, refl, ap, sym, _∙_}
@@ -115,11 +115,13 @@ module _ (z : Shape) (img : List ℕ) where
 
   -- of the entry of a full slot; so its lengths are those that were read
   module _ (s t j : ℕ) (im : Image z img) (it : IsTier z t) (f : EntryFits z img s t j) where
-    pub entry-inside : (entryAt z img t j .keyAt + entryAt z img t j .keyLength ≤ length img) × (entryAt z img t j .valueAt + entryAt z img t j .valueLength ≤ length img)
+    pub entry-inside : (entryAt z img t j .keyAt + entryAt z img t j .keyLength ≤ length img)
+        × (entryAt z img t j .valueAt + entryAt z img t j .valueLength ≤ length img)
     unfolding entryAt
     entry-inside = whole-in-image t (chunkOf z img t j) im it (stored z img t (chunkOf z img t j)) refl (f .whole) (f .rangeEnds)
 
-    pub entry-long : (length (keyOf img (entryAt z img t j)) ≡ entryAt z img t j .keyLength) × (length (valueOf img (entryAt z img t j)) ≡ entryAt z img t j .valueLength)
+    pub entry-long : (length (keyOf img (entryAt z img t j)) ≡ entryAt z img t j .keyLength)
+        × (length (valueOf img (entryAt z img t j)) ≡ entryAt z img t j .valueLength)
     entry-long = (length-cut img _ _ (entry-inside .0), length-cut img _ _ (entry-inside .1))
 
   -- the chunks that a pair needs
@@ -141,7 +143,8 @@ module _ (z : Shape) (img : List ℕ) where
       let fits : SlotsFit z img s t = sound .entries .tiersFit s hs t m .slotsFit in
       let it : IsTier z t = chain-in-tiers z img (sound .chains) s t hs m in
       marked-tier t (liveIn z img s t) (sound .chunks .tiersFit s hs t m .marks) (entry-ends s t fits)
-      ∙ liveIn-total z img s t (λ e. e .chunks) (λ v. needs (pairFor z img t v)) (λ j hj full. entry-needs s t j (sound-image z img sound) it (fits .full j hj full))
+      ∙ liveIn-total z img s t (λ e. e .chunks) (λ v. needs (pairFor z img t v))
+      (λ j hj full. entry-needs s t j (sound-image z img sound) it (fits .full j hj full))
 
   pub marked-sum : SoundImage z img → markedChunks z img ≡ total (pairsOf z img) (λ p. chunksFor settings (length (p .key)) (length (p .value)))
   unfolding markedChunks

@@ -1,4 +1,4 @@
--- The counters follow: a tier's entry count and lowest free chunk field, written anew, make the image sound. Assumes nothing.
+-- The counters follow: a tier's entry count and lowest free chunk field, written anew, make the image sound.
 use Prim.Native.Nat.{ℕ, _-_, _/_, _%_, _<_}
 use mathlib.Core.List.{List, [], _∷_, List·Memᴰ}
 use mathlib.Core.Path.{_≡_, ap, sym, _∙_, subst}
@@ -93,7 +93,8 @@ module _ (z : Shape) (img : List ℕ) (s t : ℕ) (hs : s < z .settings .segment
   keeps q h a b =
       get-puts-other (im .framed) img (countPlace z t ≔ length (fullSlots z img t) ∷ lowPlace z t ≔ lowestClear z img t ∷ []) q h
       (every-cons (λ w. In z (written w) × (q ≢ written w)) (countPlace z t ≔ length (fullSlots z img t)) _ (shared-in z entryCount count t it, λ e. a (sym e))
-      (every-cons (λ w. In z (written w) × (q ≢ written w)) (lowPlace z t ≔ lowestClear z img t) _ (shared-in z lowestFree low t it, λ e. b (sym e)) (every-none _)))
+      (every-cons (λ w. In z (written w) × (q ≢ written w)) (lowPlace z t ≔ lowestClear z img t) _ (shared-in z lowestFree low t it, λ e. b (sym e))
+      (every-none _)))
 
   keeps-global : (f : Global) → get z after (global f) ≡ get z img (global f)
   keeps-global f =
@@ -117,11 +118,14 @@ module _ (z : Shape) (img : List ℕ) (s t : ℕ) (hs : s < z .settings .segment
         marks =
             λ i h.
             mark-get z after u i
-            ∙ ap (λ (v : ℕ). bitOf v (i % 8)) (keeps (tier u (free (i / 8))) (is, omega arith) (shared-free z entryCount count t u (i / 8)) (shared-free z lowestFree low t u (i / 8)))
+            ∙ ap (λ (v : ℕ). bitOf v (i % 8)) (keeps (tier u (free (i / 8))) (is, omega arith) (shared-free z entryCount count t u (i / 8))
+            (shared-free z lowestFree low t u (i / 8)))
             ∙ sym (mark-get z img u i);
         bytes =
             rw whole at
-            (cut-chunks z u after img 0 long (λ i h. keeps (tier u (byte i)) (is, h) (shared-byte z entryCount count t u i) (shared-byte z lowestFree low t u i)) (omega arith));
+            (cut-chunks z u after img 0 long
+            (λ i h. keeps (tier u (byte i)) (is, h) (shared-byte z entryCount count t u i) (shared-byte z lowestFree low t u i))
+            (omega arith));
       }
 
   keeps-chains : SameChains z img after

@@ -1,4 +1,4 @@
--- One tier is changed and nothing else: what must be known of it so that the image stays sound. Assumes nothing.
+-- One tier is changed and nothing else: what must be known of it so that the image stays sound.
 use Prim.Native.Nat.{ℕ, _+_, _<_}
 use mathlib.Core.List.{List, List·Memᴰ}
 use mathlib.Core.Path.{_≡_, refl, ap, sym, _∙_, subst}
@@ -34,16 +34,19 @@ pub record OnlyTier (z : Shape) (img img′ : List ℕ) (t : ℕ) : Type 0 where
   pub globals : (f : Global) → get z img′ (global f) ≡ get z img (global f)
   pub chains : SameChains z img img′
   pub others : (u : ℕ) → IsTier z u → u ≢ t → SameTier z img img′ u
-  pub counts : (u : ℕ) → IsTier z u → u ≢ t → (get z img′ (countPlace z u) ≡ get z img (countPlace z u)) × (get z img′ (lowPlace z u) ≡ get z img (lowPlace z u))
+  pub counts : (u : ℕ) → IsTier z u → u ≢ t
+      → (get z img′ (countPlace z u) ≡ get z img (countPlace z u)) × (get z img′ (lowPlace z u) ≡ get z img (lowPlace z u))
 
 -- what must be known of the changed tier
 pub record TierAgain (z : Shape) (img img′ : List ℕ) (s t : ℕ) : Type 0 where
   pub fits : TierFits z img′ s t
   pub marks : Below (z .settings .chunks) (λ i. howMany (liveIn z img′ s t) (covers i) ≡ mark z img′ t i)
   -- no key is there twice
-  pub own : (j k : ℕ) → j < z .settings .slots → k < z .settings .slots → slotAt z img′ t j ≢ 0 → slotAt z img′ t k ≢ 0 → keyAt z img′ t j ≡ keyAt z img′ t k → j ≡ k
+  pub own : (j k : ℕ) → j < z .settings .slots → k < z .settings .slots → slotAt z img′ t j ≢ 0 → slotAt z img′ t k ≢ 0
+      → keyAt z img′ t j ≡ keyAt z img′ t k → j ≡ k
   -- and none is in another tier of the chain
-  pub apart : (u : ℕ) → List·Memᴰ u (chain z img s) → u ≢ t → (j k : ℕ) → j < z .settings .slots → k < z .settings .slots → slotAt z img′ t j ≢ 0 → slotAt z img u k ≢ 0
+  pub apart : (u : ℕ) → List·Memᴰ u (chain z img s) → u ≢ t → (j k : ℕ) → j < z .settings .slots → k < z .settings .slots
+      → slotAt z img′ t j ≢ 0 → slotAt z img u k ≢ 0
       → keyAt z img′ t j ≢ keyAt z img u k
 
 module _ (z : Shape) (img : List ℕ) (s t : ℕ) (hs : s < z .settings .segments) (sound : SoundBut z img t) (m : List·Memᴰ t (chain z img s)) where
@@ -109,7 +112,8 @@ module _ (z : Shape) (img : List ℕ) (s t : ℕ) (hs : s < z .settings .segment
           absurd (a .apart u mu ne j k hj hk fj (other-full s hs u mu ne k hk fk) (e ∙ other-key s hs u mu ne k hk fk)))
 
       -- one of another
-      once-there : (s′ : ℕ) → s′ < segments → (v : ℕ) → List·Memᴰ v (chain z img s′) → v ≢ t → (j : ℕ) → j < slots → slotAt z img′ v j ≢ 0 → KeyOnce z img′ s′ v j
+      once-there : (s′ : ℕ) → s′ < segments → (v : ℕ) → List·Memᴰ v (chain z img s′) → v ≢ t → (j : ℕ) → j < slots → slotAt z img′ v j ≢ 0
+          → KeyOnce z img′ s′ v j
       once-there s′ h v mv ne j hj fj u mu =
           let fv : slotAt z img v j ≢ 0 = other-full s′ h v mv ne j hj fj in
           let ev : keyAt z img′ v j ≡ keyAt z img v j = other-key s′ h v mv ne j hj fj in
@@ -127,7 +131,10 @@ module _ (z : Shape) (img : List ℕ) (s t : ℕ) (hs : s < z .settings .segment
       entries-fit : EntriesFit z img′
       entries-fit =
           record {
-            tiersFit = λ s′ h. by-tier (TierFits z img′) (a .fits) s′ h (λ u mu ne. same-tier-fits z img img′ u (other s′ h u mu ne) s′ (other-fits s′ h u mu ne));
+            tiersFit =
+                λ s′ h.
+                by-tier (TierFits z img′) (a .fits) s′ h
+                (λ u mu ne. same-tier-fits z img img′ u (other s′ h u mu ne) s′ (other-fits s′ h u mu ne));
             keysOnce = keys-once;
           }
 

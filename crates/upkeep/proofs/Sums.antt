@@ -1,6 +1,6 @@
--- Sums over a tier's slots and over the live entries. Assumes nothing.
-use Prim.Native.Nat.{ℕ, zero, suc, _+_, _<_}
-use mathlib.Core.List.{List, [], _∷_, _++_, map, flatMap, List·Memᴰ·head, List·Memᴰ·tail}
+-- Sums over a tier's slots and over the live entries.
+use Prim.Native.Nat.{ℕ, zero, suc, _+_}
+use mathlib.Core.List.{List, [], _∷_, _++_}
 use mathlib.Core.Path.{_≡_, refl, ap, sym, _∙_}
 use mathlib.Core.Logic.{⊎-elim, _≢_}
 use mathlib.Core.Bool.{Bool, true, false, not}
@@ -9,12 +9,11 @@ use native.Mathlib.Numerals.{add-one}
 use lib.Dec.{eqb}
 use lib.ListN.{length}
 use borrow.Author.Tests.{eq-eqb, ne-eqb}
-use Rattle.lists.specs.Cases.{by-test, same-or}
-use Rattle.lists.specs.Lists.{span, below, those, howMany, total}
-use Rattle.lists.specs.Quantify.{Below, Every}
-use Rattle.lists.proofs.Lists.{total-append, howMany-append, howMany-same, howMany-other}
+use Rattle.lists.specs.Cases.{same-or}
+use Rattle.lists.specs.Lists.{span, below, those, total}
+use Rattle.lists.specs.Quantify.{Below}
+use Rattle.lists.proofs.Lists.{total-append}
 use Rattle.lists.proofs.Rows.{those-more, those-same}
-use Rattle.settings.specs.declared.Settings.{Settings}
 use Rattle.layout.specs.declared.Shape.{Shape}
 use Rattle.chains.specs.Chains.{chain, chained}
 use Rattle.probe.specs.Table.{Table, total as Table·total}
@@ -79,7 +78,8 @@ module _ (z : Shape) (img : List ℕ) where
   full-total t = length-total (fullSlots z img t) ∙ full-slots (slotsOf z t) img (λ _. 1) (λ _. 1) (z .settings .slots) (λ j l h. refl)
 
   -- a sum over a tier's live entries, of what the slots' numbers alone give
-  pub liveIn-total : (s t : ℕ) (g : Live → ℕ) (f : ℕ → ℕ) → Below (z .settings .slots) (λ j. slotAt z img t j ≢ 0 → g (liveAt z img s t j) ≡ f (slotAt z img t j))
+  pub liveIn-total : (s t : ℕ) (g : Live → ℕ) (f : ℕ → ℕ)
+      → Below (z .settings .slots) (λ j. slotAt z img t j ≢ 0 → g (liveAt z img s t j) ≡ f (slotAt z img t j))
       → total (liveIn z img s t) g ≡ Table·total (slotsOf z t) (ifFull f) img (z .settings .slots)
   unfolding fullSlots liveIn
   liveIn-total s t g f e =

@@ -1,4 +1,4 @@
--- A slot's number: the entry that it names, and sums over a tier's slots. Assumes nothing.
+-- A slot's number: the entry that it names, and sums over a tier's slots.
 use Prim.Native.Nat.{ℕ}
 use mathlib.Core.List.{List}
 use mathlib.Core.Bool.{true, false}
@@ -6,7 +6,6 @@ use lib.Dec.{eqb}
 use mathlib.Core.Path.{_≡_}
 use mathlib.Core.Logic.{_≢_}
 use borrow.Author.Tests.{eq-eqb, ne-eqb}
-use Rattle.settings.specs.declared.Settings.{Settings}
 use Rattle.layout.specs.declared.Shape.{Shape}
 use Rattle.probe.specs.Table.{total as Table·total}
 use Rattle.entries.specs.declared.Entry.{Entry}

@@ -7,7 +7,6 @@ use lib.ListN.{length}
 use Rattle.lists.specs.Lists.{howMany}
 use Rattle.lists.specs.Quantify.{Below, Every}
 use Rattle.words.specs.Bytes.{Bytes}
-use Rattle.settings.specs.declared.Settings.{Settings}
 use Rattle.settings.specs.Rules.{Valid}
 use Rattle.layout.specs.declared.Shape.{Shape}
 use Rattle.layout.specs.Places.{get, mark, countPlace}
@@ -49,6 +48,8 @@ pub record SoundBut (z : Shape) (img : List ℕ) (t : ℕ) : Type 0 where
   pub frame : FrameFits z img
   pub chains : ChainsFit z img
   pub entries : EntriesFit z img
-  pub marks : Below (z .settings .segments) (λ s. Every (chain z img s) (λ u. Below (z .settings .chunks) (λ i. howMany (liveIn z img s u) (covers i) ≡ mark z img u i)))
-  pub counters : Below (z .settings .segments) (λ s. Every (chain z img s) (λ u. u ≢ t → (get z img (countPlace z u) ≡ length (fullSlots z img u)) × LowMarkFits z img u))
+  pub marks : Below (z .settings .segments)
+      (λ s. Every (chain z img s) (λ u. Below (z .settings .chunks) (λ i. howMany (liveIn z img s u) (covers i) ≡ mark z img u i)))
+  pub counters : Below (z .settings .segments)
+      (λ s. Every (chain z img s) (λ u. u ≢ t → (get z img (countPlace z u) ≡ length (fullSlots z img u)) × LowMarkFits z img u))
   pub free : Every (freeChain z img) (FreeTierFits z img)

@@ -1,12 +1,12 @@
--- Laws of bits: of a number, and of a list of bytes. Assumes nothing.
-use Prim.Native.Nat.{ℕ, zero, suc, _+_, _-_, _*_, _/_, _%_, _^_, _≤_, _<_, min, max}
+-- Laws of bits: of a number, and of a list of bytes.
+use Prim.Native.Nat.{ℕ, zero, suc, _+_, _-_, _*_, _/_, _%_, _^_, _≤_, _<_}
 use mathlib.Core.List.{List}
 use mathlib.Core.Path.{_≡_, refl, ap, ap₂, sym, _∙_, subst}
 use mathlib.Core.Logic.{_⊎_, inl, inr, ⊎-elim, _≢_}
 use native.Mathlib.Omega.{arith}
-use native.Mathlib.Nat.{add-zero, add-suc, one-mul, pow-suc, mod-eq-of-lt, mod-lt, mul-assoc}
+use native.Mathlib.Nat.{add-zero, one-mul, mod-eq-of-lt, mod-lt, mul-assoc}
 use native.Mathlib.Numerals.{add-one}
-use lib.ListN.{length, getD, set, length-set}
+use lib.ListN.{length, getD, length-set}
 use lib.Seq.{getD-set-same, getD-set-other, set-out}
 use lib.Pow.{pow-add, split, high, low, field, mod-mod-pow, shr-shr, shr-lt, pow-pos, pow-lt, ones-lt}
 use lib.Arith.{digits-lt, mul-pred}

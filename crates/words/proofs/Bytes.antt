@@ -1,13 +1,13 @@
--- Laws of a stretch of bytes read and written. Assumes nothing.
-use Prim.Native.Nat.{ℕ, zero, suc, _+_, _-_, _≤_, _<_}
+-- Laws of a stretch of bytes read and written.
+use Prim.Native.Nat.{ℕ, zero, suc, _+_, _≤_, _<_}
 use mathlib.Core.List.{List, [], _∷_}
-use mathlib.Core.Path.{_≡_, refl, ap, sym, _∙_}
+use mathlib.Core.Path.{_≡_, refl, sym, _∙_}
 use mathlib.Core.Logic.{_⊎_, inl, inr, ⊎-elim, _≢_}
 use native.Mathlib.Omega.{arith}
-use native.Mathlib.Nat.{add-zero, add-suc}
-use lib.ListN.{length, getD, set, take, drop, length-set, length-take, length-drop}
-use lib.Seq.{sets, length-sets, getD-set-same, getD-set-other, set-out, set-comm, set-set, set-getD, ext-getD, getD-take, getD-drop, drop-cons}
-use mathlib.Core.Bool.{Bool, true, false, false≢true}
+use native.Mathlib.Nat.{add-zero}
+use lib.ListN.{length, getD, set, drop, length-set, length-take, length-drop}
+use lib.Seq.{sets, length-sets, getD-set-same, getD-set-other, set-out, ext-getD, getD-take, getD-drop}
+use mathlib.Core.Bool.{true, false, false≢true}
 use borrow.Author.Tests.{eq-eqb, ne-eqb}
 use Rattle.words.specs.Bytes.{Bytes, cut, Apart, same}
 use Rattle.lists.specs.Cases.{by-test, lt-or, same-or}
@@ -42,28 +42,6 @@ bytes-sets l at [] b c = b
 bytes-sets l at (x ∷ bs) b c = bytes-sets (set l at x) (suc at) bs (bytes-set l at x b (c 0)) (λ i. c (suc i))
 
 -- ---- writes among themselves
-
-sets-set : (l : List ℕ) (at : ℕ) (bs : List ℕ) (i x : ℕ) → (i < at) ⊎ (at + length bs ≤ i) → sets (set l i x) at bs ≡ set (sets l at bs) i x
-sets-set l at [] i x o = refl
-sets-set l at (b ∷ bs) i x o =
-    rw (set-comm l i at x b (⊎-elim (λ (h : i < at). omega arith) (λ (h : at + length (b ∷ bs) ≤ i). omega arith) o))
-    (sets-set (set l at b) (suc at) bs i x (⊎-elim (λ (h : i < at). inl (omega arith)) (λ (h : at + length (b ∷ bs) ≤ i). inr (omega arith)) o))
-
--- in either order
-pub sets-comm : (l : List ℕ) (a : ℕ) (xs : List ℕ) (b : ℕ) (ys : List ℕ) → Apart a (length xs) b (length ys) → sets (sets l a xs) b ys ≡ sets (sets l b ys) a xs
-sets-comm l a [] b ys o = refl
-sets-comm l a (x ∷ xs) b ys o =
-    sets-comm (set l a x) (suc a) xs b ys (⊎-elim (λ (h : a + length (x ∷ xs) ≤ b). inl (omega arith)) (λ (h : b + length ys ≤ a). inr (omega arith)) o)
-    ∙ ap (λ (k : List ℕ). sets k (suc a) xs)
-    (sets-set l b ys a x (⊎-elim (λ (h : a + length (x ∷ xs) ≤ b). inl (omega arith)) (λ (h : b + length ys ≤ a). inr (omega arith)) o))
-
--- the last one counts
-pub sets-again : (l : List ℕ) (at : ℕ) (xs ys : List ℕ) → length xs ≡ length ys → sets (sets l at xs) at ys ≡ sets l at ys
-sets-again l at [] [] e = refl
-sets-again l at [] (y ∷ ys) e = absurd (omega arith)
-sets-again l at (x ∷ xs) [] e = absurd (omega arith)
-sets-again l at (x ∷ xs) (y ∷ ys) e =
-    rw (← sets-set (set l at x) (suc at) xs at y (inl (omega arith)), set-set) (sets-again (set l at y) (suc at) xs ys (omega arith))
 
 -- ---- stretches
 

@@ -1,4 +1,4 @@
--- Stretches of bytes within one another. Assumes nothing.
+-- Stretches of bytes within one another.
 use Prim.Native.Nat.{ℕ, zero, suc, _+_, _-_, _≤_, _<_}
 use mathlib.Core.Path.{_≡_, ap, sym, _∙_}
 use mathlib.Core.List.{List, [], _∷_, _++_}

@@ -1,16 +1,16 @@
--- Laws of numbers in bytes, over every width, and what the loops that read and write one keep. Assumes nothing.
+-- Laws of numbers in bytes, over every width, and what the loops that read and write one keep.
 use Prim.Native.Nat.{ℕ, zero, suc, _+_, _-_, _*_, _/_, _%_, _^_, _≤_, _<_}
-use mathlib.Core.List.{List, [], _∷_, _++_}
-use mathlib.Core.Path.{_≡_, refl, ap, sym, _∙_}
-use mathlib.Core.Logic.{_⊎_, inl, inr, ⊎-elim, _≢_}
+use mathlib.Core.List.{List, _++_}
+use mathlib.Core.Path.{_≡_, refl, ap, _∙_}
+use mathlib.Core.Logic.{_⊎_, inl, inr, ⊎-elim}
 use native.Mathlib.Omega.{arith}
 use native.Mathlib.Nat.{sub-self, pow-le-pow-right, sub-zero, add-zero, pow-suc}
 use native.Mathlib.Numerals.{add-one, towards-numerals}
 use lib.ListN.{length, getD, set, length-set, List·getD-append}
-use lib.Seq.{sets, length-sets, getD-set-same, set-getD}
-use Rattle.words.specs.Bytes.{Bytes, cut, Apart}
+use lib.Seq.{sets, length-sets, getD-set-same}
+use Rattle.words.specs.Bytes.{Bytes, Apart}
 use Rattle.words.specs.Numbers.{le, leBytes, putLe, be}
-use Rattle.words.proofs.Bytes.{getD-sets-out, getD-sets-in, bytes-sets, sets-comm, sets-again, cut-sets-out}
+use Rattle.words.proofs.Bytes.{getD-sets-out, bytes-sets}
 
 -- ---- the bytes of a number
 
@@ -39,10 +39,6 @@ pub getD-putLe-out : (l : List ℕ) (at n v i : ℕ) → (i < at) ⊎ (at + n �
 unfolding putLe
 getD-putLe-out l at n v i o =
     getD-sets-out l at (leBytes n v) i (⊎-elim (λ h. inl h) (λ (h : at + n ≤ i). inr (omega (arith, length-leBytes n v))) o)
-
-pub cut-putLe-out : (l : List ℕ) (a n b m v : ℕ) → Apart a n b m → cut (putLe l b m v) a n ≡ cut l a n
-unfolding putLe
-cut-putLe-out l a n b m v o = cut-sets-out l a n b (leBytes m v) (rw length-leBytes o)
 
 -- ---- reading after writing
 
@@ -73,25 +69,6 @@ le-lt l at zero b = omega arith
 le-lt l at (suc n) b = omega (arith, b at, le-lt l (suc at) n b)
 
 -- ---- writes among themselves
-
--- in either order
-pub putLe-comm : (l : List ℕ) (a m v b n w : ℕ) → Apart a m b n → putLe (putLe l a m v) b n w ≡ putLe (putLe l b n w) a m v
-unfolding putLe
-putLe-comm l a m v b n w o = sets-comm l a (leBytes m v) b (leBytes n w) (rw (length-leBytes m v, length-leBytes n w) o)
-
--- the last one counts
-pub putLe-again : (l : List ℕ) (at n v w : ℕ) → putLe (putLe l at n v) at n w ≡ putLe l at n w
-unfolding putLe
-putLe-again l at n v w = sets-again l at (leBytes n v) (leBytes n w) (length-leBytes n v ∙ sym (length-leBytes n w))
-
--- what stands there already
-pub putLe-le : (l : List ℕ) (at n : ℕ) → Bytes l → putLe l at n (le l at n) ≡ l
-unfolding putLe leBytes le
-putLe-le l at zero b = refl
-putLe-le l at (suc n) b =
-    let lo : (getD l at 0 + 256 * le l (suc at) n) % 256 ≡ getD l at 0 = omega (arith, b at) in
-    let hi : (getD l at 0 + 256 * le l (suc at) n) / 256 ≡ le l (suc at) n = omega (arith, b at) in
-    rw (lo, hi, set-getD) (putLe-le l (suc at) n b)
 
 -- ---- fixed widths, as sums
 

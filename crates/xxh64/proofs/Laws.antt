@@ -1,4 +1,4 @@
--- Laws of the wrapping product, of rotation, and of the definitions' recursions. Assumes nothing.
+-- Laws of the wrapping product, of rotation, and of the definitions' recursions.
 use mathlib.Core.Path.{_≡_, refl, sym, ap, ap₂, _∙_, subst}
 use mathlib.Core.List.{List}
 use Prim.Native.Nat.{ℕ, _+_, _-_, _*_, _/_, _%_, _^_, _≤_, _<_}

@@ -4,7 +4,7 @@ use native.Mathlib.Omega.{arith}
 use Rattle.chains.proofs.Segments.{chain-ended, chain-is-lost}
 use borrow.Author.Needs.{needs}
 use Prim.Native.Nat.{_-_}
-use Rattle.chains.proofs.Segments.{AllWalking, all-starts, all-turns, all-lost, all-ends, met-before}
+use Rattle.chains.proofs.Segments.{AllWalking, all-starts, all-turns, all-lost, all-ends}
 use Rattle.chains.proofs.all_fit.Statement.{statement}
 use Rattle.chains.proofs.all_fit.Tie as tie
 
@@ -18,7 +18,15 @@ loop-holds : tie.Need-loop-holds Inv-loop μ-loop
 loop-holds c = all-starts _ _ _
 
 chain-fits-requires : tie.Need-chain-fits-requires Inv-loop μ-loop
-chain-fits-requires c κs = (c .before .before .before .before .before .before .pre .0, search needs, all-long (c .before .before .before .before .before .before .args .z) (c .before .before .before .before .before .before .args .img .now) (c .before .before .before .loop .inv) ∙ c .before .before .before .before .before .before .pre .1, all-met (c .before .before .before .before .before .before .args .z) (c .before .before .before .before .before .before .args .img .now) (c .before .before .before .loop .inv) (c .before .before .before .before .before .before .pre .2) (c .before .before .before .before .before .before .pre .0 .valid .segments .1 .1) (c .before .before .before .before .before .before .pre .0 .tierCount))
+chain-fits-requires c κs =
+    let p = c .before .before .before in let the-loop = p .loop in
+    let start = p .before .before .before in (
+      start .pre .0,
+      search needs,
+      all-long (start .args .z) (start .args .img .now) (the-loop .inv) ∙ start .pre .1,
+      all-met (start .args .z)
+          (start .args .img .now) (the-loop .inv) (start .pre .2) (start .pre .0 .valid .segments .1 .1) (start .pre .0 .tierCount),
+    )
 
 enum-known-k : tie.Need-enum-known-k Inv-loop μ-loop
 enum-known-k c = search needs
@@ -27,13 +35,32 @@ enum-told : tie.Need-enum-told Inv-loop μ-loop
 enum-told c = search needs
 
 same-length : tie.Need-same-length Inv-loop μ-loop
-same-length c = c .before .before .before .before .chain-fits .kept .1 .1 .1 .0 ∙ all-long (c .before .before .before .before .before .before .before .before .before .before .before .args .z) (c .before .before .before .before .before .before .before .before .before .before .before .args .img .now) (c .before .before .before .before .before .before .before .before .loop .inv)
+same-length c =
+    let p = c .before .before .before .before in let chain-fits = p .chain-fits in
+    let p = p .before .before .before .before in let the-loop = p .loop in
+    let start = p .before .before .before in
+    chain-fits .kept .1 .1 .1 .0 ∙ all-long (start .args .z) (start .args .img .now) (the-loop .inv)
 
 returns : tie.Need-returns Inv-loop μ-loop
-returns c = all-lost (c .before .before .before .before .before .before .before .before .before .before .before .args .z) (c .before .before .before .before .before .before .before .before .before .before .before .args .img .now) (omega arith) (chain-is-lost (c .before .before .before .before .before .before .before .before .before .before .before .args .z) (c .before .before .before .before .before .before .before .before .before .before .before .args .img .now) _ _ _ (c .before .before .before .before .chain-fits .result) (c .before .before .before .before .chain-fits .ensures) (c .enum-told .given .1))
+returns c =
+    let p = c .before .before .before .before in let chain-fits = p .chain-fits in
+    let start = p .before .before .before .before .before .before .before in
+    all-lost (start .args .z) (start .args .img .now) (omega arith)
+    (chain-is-lost (start .args .z) (start .args .img .now) _ _ _ (chain-fits .result) (chain-fits .ensures) (c .enum-told .given .1))
 
 add-total : tie.Need-add-total Inv-loop μ-loop
-add-total c = omega (arith, all-short (c .before .before .before .before .before .before .before .before .before .before .before .before .args .z) (c .before .before .before .before .before .before .before .before .before .before .before .before .args .img .now) (all-turns (c .before .before .before .before .before .before .before .before .before .before .before .before .args .z) (c .before .before .before .before .before .before .before .before .before .before .before .before .args .img .now) (c .before .before .before .before .before .before .before .before .before .loop .inv) (omega arith) (chain-ended (c .before .before .before .before .before .before .before .before .before .before .before .before .args .z) (c .before .before .before .before .before .before .before .before .before .before .before .before .args .img .now) _ _ _ (c .before .before .before .before .before .chain-fits .result) _ (c .before .before .before .before .before .chain-fits .ensures) (c .before .k .given .1))) (c .before .before .before .before .before .before .before .before .before .before .before .before .pre .0 .valid .segments .1 .1) (c .before .before .before .before .before .before .before .before .before .before .before .before .pre .0 .tierCount))
+add-total c =
+    let p = c .before .before .before .before .before in let chain-fits = p .chain-fits in
+    let p = p .before .before in let test = p .if1 in
+    let p = p .before .before in let the-loop = p .loop in
+    let start = p .before .before .before in
+    omega (
+      arith,
+      all-short (start .args .z) (start .args .img .now)
+          (all-turns (start .args .z) (start .args .img .now) (the-loop .inv) (test .taken)
+          (chain-ended (start .args .z) (start .args .img .now) _ _ _ (chain-fits .result) _ (chain-fits .ensures) (c .before .k .given .1)))
+          (start .pre .0 .valid .segments .1 .1) (start .pre .0 .tierCount),
+    )
 
 add-s : tie.Need-add-s Inv-loop μ-loop
 add-s c = search needs
@@ -42,13 +69,23 @@ loop-less : tie.Need-loop-less Inv-loop μ-loop
 loop-less c = search needs
 
 loop-again : tie.Need-loop-again Inv-loop μ-loop
-loop-again c = all-turns (c .before .before .before .before .before .before .before .before .before .before .before .before .args .z) (c .before .before .before .before .before .before .before .before .before .before .before .before .args .img .now) (c .before .before .before .before .before .before .before .before .before .loop .inv) (omega arith) (chain-ended (c .before .before .before .before .before .before .before .before .before .before .before .before .args .z) (c .before .before .before .before .before .before .before .before .before .before .before .before .args .img .now) _ _ _ (c .before .before .before .before .before .chain-fits .result) _ (c .before .before .before .before .before .chain-fits .ensures) (c .before .k .given .1))
+loop-again c =
+    let p = c .before .before .before .before .before in let chain-fits = p .chain-fits in
+    let p = p .before .before in let test = p .if1 in
+    let p = p .before .before in let the-loop = p .loop in
+    let start = p .before .before .before in
+    all-turns (start .args .z) (start .args .img .now) (the-loop .inv) (test .taken)
+    (chain-ended (start .args .z) (start .args .img .now) _ _ _ (chain-fits .result) _ (chain-fits .ensures) (c .before .k .given .1))
 
 same-length-2 : tie.Need-same-length-2 Inv-loop μ-loop
-same-length-2 c = all-long (c .before .before .before .before .before .args .z) (c .before .before .before .before .before .args .img .now) (c .before .before .loop .inv)
+same-length-2 c =
+    let start = c .before .before .before .before .before in
+    all-long (start .args .z) (start .args .img .now) (c .before .before .loop .inv)
 
 returns-2 : tie.Need-returns-2 Inv-loop μ-loop
-returns-2 c = all-ends (c .before .before .before .before .before .args .z) (c .before .before .before .before .before .args .img .now) (c .before .before .loop .inv) (omega arith)
+returns-2 c =
+    let start = c .before .before .before .before .before in
+    all-ends (start .args .z) (start .args .img .now) (c .before .before .loop .inv) (omega arith)
 
 pub all-fit-spec : {M : Type 1} → statement M
 all-fit-spec =

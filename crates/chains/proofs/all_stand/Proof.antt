@@ -21,13 +21,23 @@ loop-holds : tie.Need-loop-holds Inv-loop μ-loop
 loop-holds c = rw add-one (standing-starts _ _ _ (c .before .pre .1) _)
 
 stands-requires : tie.Need-stands-requires Inv-loop μ-loop
-stands-requires c κs = (c .before .before .before .pre .0, rw (c .before .loop .inv .here (omega arith)) (chain-tier _ _ _ (c .before .before .before .pre .1) (c .before .before .before .pre .3) (c .before .loop .i) (omega arith)))
+stands-requires c κs =
+    let p = c .before in let the-loop = p .loop in
+    let start = p .before .before in
+    (start .pre .0, rw (the-loop .inv .here (omega arith)) (chain-tier _ _ _ (start .pre .1) (start .pre .3) (the-loop .i) (omega arith)))
 
 returns : tie.Need-returns Inv-loop μ-loop
-returns c = λ f. decided-false (c .before .stands .result) (c .before .stands .ensures) (not-true _ (c .if1 .taken)) (rw (c .before .before .before .loop .inv .here (omega arith), c .before .before .before .loop .inv .before) (f (c .before .before .before .loop .i) (omega arith)))
+returns c =
+    let p = c .before in let stands = p .stands in
+    let p = p .before .before in let the-loop = p .loop in
+    λ f. decided-false (stands .result) (stands .ensures) (not-true _ (c .if1 .taken))
+    (rw (the-loop .inv .here (omega arith), the-loop .inv .before) (f (the-loop .i) (omega arith)))
 
 next-of-requires : tie.Need-next-of-requires Inv-loop μ-loop
-next-of-requires c κs = (c .before .before .before .before .before .pre .0, rw (c .before .before .before .loop .inv .here (omega arith)) (chain-tier _ _ _ (c .before .before .before .before .before .pre .1) (c .before .before .before .before .before .pre .3) (c .before .before .before .loop .i) (omega arith)))
+next-of-requires c κs =
+    let p = c .before .before .before in let the-loop = p .loop in
+    let start = p .before .before in
+    (start .pre .0, rw (the-loop .inv .here (omega arith)) (chain-tier _ _ _ (start .pre .1) (start .pre .3) (the-loop .i) (omega arith)))
 
 add-i : tie.Need-add-i Inv-loop μ-loop
 add-i c = search needs
@@ -36,10 +46,19 @@ loop-less : tie.Need-loop-less Inv-loop μ-loop
 loop-less c = search needs
 
 loop-again : tie.Need-loop-again Inv-loop μ-loop
-loop-again c = standing-turns (c .before .before .before .before .before .before .args .z) (c .before .before .before .before .before .before .args .img .now) (c .before .before .before .before .before .before .args .s) (c .before .before .before .before .before .before .pre .1) (c .before .before .before .before .before .before .pre .2) (c .before .before .before .before .loop .inv) (omega arith) (rw (← c .before .before .before .before .loop .inv .here (omega arith), ← c .before .before .before .before .loop .inv .before) (decided-true (c .before .before .stands .result) (c .before .before .stands .ensures) (not-false _ (c .before .if1 .left)))) (c .next-of .ensures)
+loop-again c =
+    let p = c .before .before in let stands = p .stands in
+    let p = p .before .before in let the-loop = p .loop in
+    let start = p .before .before in
+    standing-turns (start .args .z) (start .args .img .now) (start .args .s) (start .pre .1) (start .pre .2) (the-loop .inv) (omega arith)
+    (rw (← the-loop .inv .here (omega arith), ← the-loop .inv .before)
+    (decided-true (stands .result) (stands .ensures) (not-false _ (c .before .if1 .left))))
+    (c .next-of .ensures)
 
 returns-2 : tie.Need-returns-2 Inv-loop μ-loop
-returns-2 c = standing-ends _ _ _ (c .before .before .before .pre .1) (c .before .loop .inv) (omega arith)
+returns-2 c =
+    let start = c .before .before .before in
+    standing-ends _ _ _ (start .pre .1) (c .before .loop .inv) (omega arith)
 
 pub all-stand-spec : {M : Type 1} → statement M
 all-stand-spec =

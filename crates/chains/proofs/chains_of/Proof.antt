@@ -24,19 +24,39 @@ enum-told : tie.Need-enum-told
 enum-told c = search needs
 
 returns : tie.Need-returns
-returns c = sym (first-lost (c .before .before .before .before .before .before .args .z) (c .before .before .before .before .before .before .args .img .now) (replicate 1025 0) (c .before .before .before .all-fit .last .1 .1 .0) (c .before .before .before .all-fit .result) (zeros-met 1025) (length-replicate {A = ℕ} 1025 0) (c .before .before .before .before .before .before .pre .valid .segments .1 .1) (c .before .before .before .before .before .before .pre .tierCount) (c .before .before .before .all-fit .ensures) (c .enum-told .given .1))
+returns c =
+    let p = c .before .before .before in let all-fit = p .all-fit in
+    let start = p .before .before .before in
+    sym (first-lost (start .args .z) (start .args .img .now) (replicate 1025 0) (all-fit .last .1 .1 .0) (all-fit .result) (zeros-met 1025)
+    (length-replicate {A = ℕ} 1025 0) (start .pre .valid .segments .1 .1) (start .pre .tierCount) (all-fit .ensures)
+    (c .enum-told .given .1))
 
 first-free-requires : tie.Need-first-free-requires
 first-free-requires c κs = search needs
 
 tier-count-requires : tie.Need-tier-count-requires
-tier-count-requires c κs = framed-bounded (c .before .before .before .before .before .before .before .before .pre)
+tier-count-requires c κs =
+    let start = c .before .before .before .before .before .before .before .before in
+    framed-bounded (start .pre)
 
 slice-aggregate-walk : tie.Need-slice-aggregate-walk
 slice-aggregate-walk c = search needs
 
 walk-requires : tie.Need-walk-requires
-walk-requires c κs = (c .before .before .before .before .before .before .before .before .before .before .pre, omega (arith, c .before .tier-count .ensures, c .before .before .before .before .before .before .before .before .before .before .pre .tierCount), first-long (c .before .before .before .before .before .before .before .before .before .before .args .z) (c .before .before .before .before .before .before .before .before .before .before .args .img .now) (replicate 1025 0) (c .before .before .before .before .before .before .before .all-fit .last .1 .1 .0) (c .before .before .before .before .before .before .before .all-fit .result) (zeros-met 1025) (length-replicate {A = ℕ} 1025 0) (c .before .before .before .before .before .before .before .before .before .before .pre .valid .segments .1 .1) (c .before .before .before .before .before .before .before .before .before .before .pre .tierCount) (c .before .before .before .before .before .before .before .all-fit .ensures) (c .before .before .before .before .used .given .0 .0) (c .before .before .before .before .used .given .1), first-met (c .before .before .before .before .before .before .before .before .before .before .args .z) (c .before .before .before .before .before .before .before .before .before .before .args .img .now) (replicate 1025 0) (c .before .before .before .before .before .before .before .all-fit .last .1 .1 .0) (c .before .before .before .before .before .before .before .all-fit .result) (zeros-met 1025) (length-replicate {A = ℕ} 1025 0) (c .before .before .before .before .before .before .before .before .before .before .pre .valid .segments .1 .1) (c .before .before .before .before .before .before .before .before .before .before .pre .tierCount) (c .before .before .before .before .before .before .before .all-fit .ensures) (c .before .before .before .before .used .given .0 .0) (c .before .before .before .before .used .given .1))
+walk-requires c κs =
+    let p = c .before .before .before .before in let used = p .used in
+    let p = p .before .before .before in let all-fit = p .all-fit in
+    let start = p .before .before .before in (
+      start .pre,
+      omega (arith, c .before .tier-count .ensures, start .pre .tierCount),
+      first-long (start .args .z) (start .args .img .now)
+          (replicate 1025 0) (all-fit .last .1 .1 .0) (all-fit .result) (zeros-met 1025) (length-replicate {A = ℕ} 1025 0)
+          (start .pre .valid .segments .1 .1) (start .pre .tierCount) (all-fit .ensures) (used .given .0 .0) (used .given .1),
+      first-met
+          (start .args .z) (start .args .img .now) (replicate 1025 0) (all-fit .last .1 .1 .0) (all-fit .result) (zeros-met 1025)
+          (length-replicate {A = ℕ} 1025 0) (start .pre .valid .segments .1 .1) (start .pre .tierCount) (all-fit .ensures) (used .given .0 .0)
+          (used .given .1),
+    )
 
 enum-known-free : tie.Need-enum-known-free
 enum-known-free c = search needs
@@ -45,32 +65,112 @@ enum-told-2 : tie.Need-enum-told-2
 enum-told-2 c = search needs
 
 returns-2 : tie.Need-returns-2
-returns-2 c = sym (free-lost (c .before .before .before .before .before .before .before .before .before .before .before .before .before .before .args .z) (c .before .before .before .before .before .before .before .before .before .before .before .before .before .before .args .img .now) (replicate 1025 0) (c .before .before .before .before .before .before .before .before .before .before .before .all-fit .last .1 .1 .0) (c .before .before .before .before .before .before .before .before .before .before .before .all-fit .result) (zeros-met 1025) (length-replicate {A = ℕ} 1025 0) (c .before .before .before .before .before .before .before .before .before .before .before .before .before .before .pre .valid .segments .1 .1) (c .before .before .before .before .before .before .before .before .before .before .before .before .before .before .pre .tierCount) (c .before .before .before .before .before .before .before .before .before .before .before .all-fit .ensures) (c .before .before .before .before .before .before .before .before .used .given .0 .0) (c .before .before .before .before .before .before .before .before .used .given .1) (c .before .before .before .walk .last .1 .1 .1 .1 .0) (c .before .before .before .before .before .before .first-free .result) (c .before .before .before .before .before .tier-count .result) (c .before .before .before .walk .result) (c .before .before .before .before .before .before .first-free .ensures) (c .before .before .before .before .before .tier-count .ensures) (c .before .before .before .walk .ensures) (c .enum-told2 .given .1))
+returns-2 c =
+    let p = c .before .before .before in let walk = p .walk in
+    let p = p .before .before in let tier-count = p .tier-count in
+    let p = p .before in let first-free = p .first-free in
+    let p = p .before .before in let used = p .used in
+    let p = p .before .before .before in let all-fit = p .all-fit in
+    let start = p .before .before .before in
+    sym (free-lost (start .args .z) (start .args .img .now) (replicate 1025 0) (all-fit .last .1 .1 .0) (all-fit .result) (zeros-met 1025)
+    (length-replicate {A = ℕ} 1025 0) (start .pre .valid .segments .1 .1) (start .pre .tierCount) (all-fit .ensures) (used .given .0 .0)
+    (used .given .1) (walk .last .1 .1 .1 .1 .0) (first-free .result) (tier-count .result) (walk .result) (first-free .ensures)
+    (tier-count .ensures) (walk .ensures) (c .enum-told2 .given .1))
 
 slice-aggregate-met-once : tie.Need-slice-aggregate-met-once
 slice-aggregate-met-once c = search needs
 
 mul-met-once : tie.Need-mul-met-once
-mul-met-once c = omega (arith, products (framed-bounded (c .before .before .before .before .before .before .before .before .before .before .before .before .before .before .before .before .before .pre)) .extras)
+mul-met-once c =
+    let start = c .before .before .before .before .before .before .before .before .before .before .before .before .before .before .before .before .before in
+    omega (arith, products (framed-bounded (start .pre)) .extras)
 
 met-once-requires : tie.Need-met-once-requires
 unfolding tiers
-met-once-requires c κs = omega (arith, second-long (c .before .before .before .before .before .before .before .before .before .before .before .before .before .before .before .before .before .args .z) (c .before .before .before .before .before .before .before .before .before .before .before .before .before .before .before .before .before .args .img .now) (replicate 1025 0) (c .before .before .before .before .before .before .before .before .before .before .before .before .before .before .all-fit .last .1 .1 .0) (c .before .before .before .before .before .before .before .before .before .before .before .before .before .before .all-fit .result) (zeros-met 1025) (length-replicate {A = ℕ} 1025 0) (c .before .before .before .before .before .before .before .before .before .before .before .before .before .before .before .before .before .pre .valid .segments .1 .1) (c .before .before .before .before .before .before .before .before .before .before .before .before .before .before .before .before .before .pre .tierCount) (c .before .before .before .before .before .before .before .before .before .before .before .before .before .before .all-fit .ensures) (c .before .before .before .before .before .before .before .before .before .before .before .used .given .0 .0) (c .before .before .before .before .before .before .before .before .before .before .before .used .given .1) (c .before .before .before .before .before .before .walk .last .1 .1 .1 .1 .0) (c .before .before .before .before .before .before .before .before .before .first-free .result) (c .before .before .before .before .before .before .before .before .tier-count .result) (c .before .before .before .before .before .before .walk .result) (c .before .before .before .before .before .before .before .before .before .first-free .ensures) (c .before .before .before .before .before .before .before .before .tier-count .ensures) (c .before .before .before .before .before .before .walk .ensures) (c .before .before .before .free .given .0 .0) (c .before .before .before .free .given .1), c .before .before .before .before .before .before .before .before .before .before .before .before .before .before .before .before .before .pre .tierCount)
+met-once-requires c κs =
+    let p = c .before .before .before in let free = p .free in
+    let p = p .before .before .before in let walk = p .walk in
+    let p = p .before .before in let tier-count = p .tier-count in
+    let p = p .before in let first-free = p .first-free in
+    let p = p .before .before in let used = p .used in
+    let p = p .before .before .before in let all-fit = p .all-fit in
+    let start = p .before .before .before in
+    omega (
+      arith,
+      second-long (start .args .z) (start .args .img .now) (replicate 1025 0) (all-fit .last .1 .1 .0) (all-fit .result)
+          (zeros-met 1025) (length-replicate {A = ℕ} 1025 0) (start .pre .valid .segments .1 .1) (start .pre .tierCount) (all-fit .ensures)
+          (used .given .0 .0) (used .given .1) (walk .last .1 .1 .1 .1 .0) (first-free .result) (tier-count .result) (walk .result)
+          (first-free .ensures) (tier-count .ensures) (walk .ensures) (free .given .0 .0) (free .given .1),
+      start .pre .tierCount,
+    )
 
 returns-3 : tie.Need-returns-3
-returns-3 c = sym (met-wrong (c .before .before .before .before .before .before .before .before .before .before .before .before .before .before .before .before .before .before .before .args .z) (c .before .before .before .before .before .before .before .before .before .before .before .before .before .before .before .before .before .before .before .args .img .now) (replicate 1025 0) (c .before .before .before .before .before .before .before .before .before .before .before .before .before .before .before .before .all-fit .last .1 .1 .0) (c .before .before .before .before .before .before .before .before .before .before .before .before .before .before .before .before .all-fit .result) (zeros-met 1025) (length-replicate {A = ℕ} 1025 0) (c .before .before .before .before .before .before .before .before .before .before .before .before .before .before .before .before .before .before .before .pre .valid .segments .1 .1) (c .before .before .before .before .before .before .before .before .before .before .before .before .before .before .before .before .before .before .before .pre .tierCount) (c .before .before .before .before .before .before .before .before .before .before .before .before .before .before .before .before .all-fit .ensures) (c .before .before .before .before .before .before .before .before .before .before .before .before .before .used .given .0 .0) (c .before .before .before .before .before .before .before .before .before .before .before .before .before .used .given .1) (c .before .before .before .before .before .before .before .before .walk .last .1 .1 .1 .1 .0) (c .before .before .before .before .before .before .before .before .before .before .before .first-free .result) (c .before .before .before .before .before .before .before .before .before .before .tier-count .result) (c .before .before .before .before .before .before .before .before .walk .result) (c .before .before .before .before .before .before .before .before .before .before .before .first-free .ensures) (c .before .before .before .before .before .before .before .before .before .before .tier-count .ensures) (c .before .before .before .before .before .before .before .before .walk .ensures) (c .before .before .before .before .before .free .given .0 .0) (c .before .before .before .before .before .free .given .1) (decided-false (c .before .met-once .result) (c .before .met-once .ensures) (not-true _ (c .if1 .taken))))
+returns-3 c =
+    let p = c .before in let met-once = p .met-once in
+    let p = p .before .before .before .before in let free = p .free in
+    let p = p .before .before .before in let walk = p .walk in
+    let p = p .before .before in let tier-count = p .tier-count in
+    let p = p .before in let first-free = p .first-free in
+    let p = p .before .before in let used = p .used in
+    let p = p .before .before .before in let all-fit = p .all-fit in
+    let start = p .before .before .before in
+    sym (met-wrong (start .args .z) (start .args .img .now) (replicate 1025 0) (all-fit .last .1 .1 .0) (all-fit .result) (zeros-met 1025)
+    (length-replicate {A = ℕ} 1025 0) (start .pre .valid .segments .1 .1) (start .pre .tierCount) (all-fit .ensures) (used .given .0 .0)
+    (used .given .1) (walk .last .1 .1 .1 .1 .0) (first-free .result) (tier-count .result) (walk .result) (first-free .ensures)
+    (tier-count .ensures) (walk .ensures) (free .given .0 .0) (free .given .1)
+    (decided-false (met-once .result) (met-once .ensures) (not-true _ (c .if1 .taken))))
 
 used-tiers-requires : tie.Need-used-tiers-requires
 used-tiers-requires c κs = search needs
 
 returns-4 : tie.Need-returns-4
-returns-4 c = sym (used-wrong (c .before .before .before .before .before .before .before .before .before .before .before .before .before .before .before .before .before .before .before .before .before .args .z) (c .before .before .before .before .before .before .before .before .before .before .before .before .before .before .before .before .before .before .before .before .before .args .img .now) (replicate 1025 0) (c .before .before .before .before .before .before .before .before .before .before .before .before .before .before .before .before .before .before .all-fit .last .1 .1 .0) (c .before .before .before .before .before .before .before .before .before .before .before .before .before .before .before .before .before .before .all-fit .result) (zeros-met 1025) (length-replicate {A = ℕ} 1025 0) (c .before .before .before .before .before .before .before .before .before .before .before .before .before .before .before .before .before .before .before .before .before .pre .valid .segments .1 .1) (c .before .before .before .before .before .before .before .before .before .before .before .before .before .before .before .before .before .before .before .before .before .pre .tierCount) (c .before .before .before .before .before .before .before .before .before .before .before .before .before .before .before .before .before .before .all-fit .ensures) (c .before .before .before .before .before .before .before .before .before .before .before .before .before .before .before .used .given .0 .0) (c .before .before .before .before .before .before .before .before .before .before .before .before .before .before .before .used .given .1) (c .before .before .before .before .before .before .before .before .before .before .walk .last .1 .1 .1 .1 .0) (c .before .before .before .before .before .before .before .before .before .before .before .before .before .first-free .result) (c .before .before .before .before .before .before .before .before .before .before .before .before .tier-count .result) (c .before .before .before .before .before .before .before .before .before .before .walk .result) (c .before .before .before .before .before .before .before .before .before .before .before .before .before .first-free .ensures) (c .before .before .before .before .before .before .before .before .before .before .before .before .tier-count .ensures) (c .before .before .before .before .before .before .before .before .before .before .walk .ensures) (c .before .before .before .before .before .before .before .free .given .0 .0) (c .before .before .before .before .before .before .before .free .given .1) (c .before .used-tiers .result) (c .before .used-tiers .ensures) (c .if2 .taken))
+returns-4 c =
+    let p = c .before in let used-tiers = p .used-tiers in
+    let p = p .before .before .before .before .before .before in let free = p .free in
+    let p = p .before .before .before in let walk = p .walk in
+    let p = p .before .before in let tier-count = p .tier-count in
+    let p = p .before in let first-free = p .first-free in
+    let p = p .before .before in let used = p .used in
+    let p = p .before .before .before in let all-fit = p .all-fit in
+    let start = p .before .before .before in
+    sym (used-wrong (start .args .z) (start .args .img .now) (replicate 1025 0) (all-fit .last .1 .1 .0) (all-fit .result) (zeros-met 1025)
+    (length-replicate {A = ℕ} 1025 0) (start .pre .valid .segments .1 .1) (start .pre .tierCount) (all-fit .ensures) (used .given .0 .0)
+    (used .given .1) (walk .last .1 .1 .1 .1 .0) (first-free .result) (tier-count .result) (walk .result) (first-free .ensures)
+    (tier-count .ensures) (walk .ensures) (free .given .0 .0) (free .given .1) (used-tiers .result) (used-tiers .ensures) (c .if2 .taken))
 
 add-t12 : tie.Need-add-t12
-add-t12 c = omega (arith, first-few (c .before .before .before .before .before .before .before .before .before .before .before .before .before .before .before .before .before .before .before .before .before .before .args .z) (c .before .before .before .before .before .before .before .before .before .before .before .before .before .before .before .before .before .before .before .before .before .before .args .img .now) (replicate 1025 0) (c .before .before .before .before .before .before .before .before .before .before .before .before .before .before .before .before .before .before .before .all-fit .last .1 .1 .0) (c .before .before .before .before .before .before .before .before .before .before .before .before .before .before .before .before .before .before .before .all-fit .result) (zeros-met 1025) (length-replicate {A = ℕ} 1025 0) (c .before .before .before .before .before .before .before .before .before .before .before .before .before .before .before .before .before .before .before .before .before .before .pre .valid .segments .1 .1) (c .before .before .before .before .before .before .before .before .before .before .before .before .before .before .before .before .before .before .before .before .before .before .pre .tierCount) (c .before .before .before .before .before .before .before .before .before .before .before .before .before .before .before .before .before .before .before .all-fit .ensures) (c .before .before .before .before .before .before .before .before .before .before .before .before .before .before .before .before .used .given .0 .0) (c .before .before .before .before .before .before .before .before .before .before .before .before .before .before .before .before .used .given .1), c .before .before .before .before .before .before .before .before .before .before .before .before .before .before .before .before .before .before .before .before .before .before .pre .valid .segments .1 .1)
+add-t12 c =
+    let p =
+    c .before .before .before .before .before .before .before .before .before .before .before .before .before .before .before .before in
+    let used = p .used in
+    let p = p .before .before .before in let all-fit = p .all-fit in
+    let start = p .before .before .before in
+    omega (
+      arith,
+      first-few (start .args .z) (start .args .img .now) (replicate 1025 0) (all-fit .last .1 .1 .0) (all-fit .result) (zeros-met 1025)
+          (length-replicate {A = ℕ} 1025 0) (start .pre .valid .segments .1 .1) (start .pre .tierCount) (all-fit .ensures) (used .given .0 .0)
+          (used .given .1),
+      start .pre .valid .segments .1 .1,
+    )
 
 returns-5 : tie.Need-returns-5
-returns-5 c = sym (all-right (c .before .before .before .before .before .before .before .before .before .before .before .before .before .before .before .before .before .before .before .before .before .before .args .z) (c .before .before .before .before .before .before .before .before .before .before .before .before .before .before .before .before .before .before .before .before .before .before .args .img .now) (replicate 1025 0) (c .before .before .before .before .before .before .before .before .before .before .before .before .before .before .before .before .before .before .before .all-fit .last .1 .1 .0) (c .before .before .before .before .before .before .before .before .before .before .before .before .before .before .before .before .before .before .before .all-fit .result) (zeros-met 1025) (length-replicate {A = ℕ} 1025 0) (c .before .before .before .before .before .before .before .before .before .before .before .before .before .before .before .before .before .before .before .before .before .before .pre .valid .segments .1 .1) (c .before .before .before .before .before .before .before .before .before .before .before .before .before .before .before .before .before .before .before .before .before .before .pre .tierCount) (c .before .before .before .before .before .before .before .before .before .before .before .before .before .before .before .before .before .before .before .all-fit .ensures) (c .before .before .before .before .before .before .before .before .before .before .before .before .before .before .before .before .used .given .0 .0) (c .before .before .before .before .before .before .before .before .before .before .before .before .before .before .before .before .used .given .1) (c .before .before .before .before .before .before .before .before .before .before .before .walk .last .1 .1 .1 .1 .0) (c .before .before .before .before .before .before .before .before .before .before .before .before .before .before .first-free .result) (c .before .before .before .before .before .before .before .before .before .before .before .before .before .tier-count .result) (c .before .before .before .before .before .before .before .before .before .before .before .walk .result) (c .before .before .before .before .before .before .before .before .before .before .before .before .before .before .first-free .ensures) (c .before .before .before .before .before .before .before .before .before .before .before .before .before .tier-count .ensures) (c .before .before .before .before .before .before .before .before .before .before .before .walk .ensures) (c .before .before .before .before .before .before .before .before .free .given .0 .0) (c .before .before .before .before .before .before .before .before .free .given .1) (decided-true (c .before .before .before .before .met-once .result) (c .before .before .before .before .met-once .ensures) (not-false _ (c .before .before .before .if1 .left))) (c .before .before .used-tiers .result) (c .before .before .used-tiers .ensures) (c .before .if2 .left))
+returns-5 c =
+    let p = c .before .before in let used-tiers = p .used-tiers in
+    let p = p .before in let if1 = p .if1 in
+    let p = p .before in let met-once = p .met-once in
+    let p = p .before .before .before .before in let free = p .free in
+    let p = p .before .before .before in let walk = p .walk in
+    let p = p .before .before in let tier-count = p .tier-count in
+    let p = p .before in let first-free = p .first-free in
+    let p = p .before .before in let used = p .used in
+    let p = p .before .before .before in let all-fit = p .all-fit in
+    let start = p .before .before .before in
+    sym (all-right (start .args .z) (start .args .img .now) (replicate 1025 0) (all-fit .last .1 .1 .0) (all-fit .result) (zeros-met 1025)
+    (length-replicate {A = ℕ} 1025 0) (start .pre .valid .segments .1 .1) (start .pre .tierCount) (all-fit .ensures) (used .given .0 .0)
+    (used .given .1) (walk .last .1 .1 .1 .1 .0) (first-free .result) (tier-count .result) (walk .result) (first-free .ensures)
+    (tier-count .ensures) (walk .ensures) (free .given .0 .0) (free .given .1)
+    (decided-true (met-once .result) (met-once .ensures) (not-false _ (if1 .left))) (used-tiers .result) (used-tiers .ensures)
+    (c .before .if2 .left))
 
 pub chains-of-spec : {M : Type 1} → statement M
 chains-of-spec =

@@ -1,4 +1,4 @@
-use mathlib.Core.Path.{ap, _∙_}
+use mathlib.Core.Path.{ap}
 use Prim.Native.Nat.{ℕ}
 use native.Mathlib.Omega.{arith}
 use Rattle.lists.specs.Quantify.{below-suc}
@@ -33,7 +33,12 @@ shared-slice-read-if1 : tie.Need-shared-slice-read-if1 Inv-loop μ-loop
 shared-slice-read-if1 c = search needs
 
 returns : tie.Need-returns Inv-loop μ-loop
-returns c = λ f. let i : c .before .before .before .before .args .after + 1 + c .before .before .before .loop .k ≡ suc (c .before .before .before .before .args .after) + c .before .before .before .loop .k = omega arith in omega (arith, ap (λ (n : ℕ). getD (c .before .before .before .before .args .times .now) n 0) i, f (c .before .before .before .loop .k) (omega arith))
+returns c =
+    let p = c .before .before .before in let the-loop = p .loop in
+    let start = p .before in
+    λ f.
+    let i : start .args .after + 1 + the-loop .k ≡ suc (start .args .after) + the-loop .k = omega arith in
+    omega (arith, ap (λ (n : ℕ). getD (start .args .times .now) n 0) i, f (the-loop .k) (omega arith))
 
 add-k : tie.Need-add-k Inv-loop μ-loop
 add-k c = search needs
@@ -42,10 +47,20 @@ loop-less : tie.Need-loop-less Inv-loop μ-loop
 loop-less c = search needs
 
 loop-again : tie.Need-loop-again Inv-loop μ-loop
-loop-again c = let i : suc (c .before .before .before .before .args .after) + c .before .before .before .loop .k ≡ c .before .before .before .before .args .after + 1 + c .before .before .before .loop .k = omega arith in let e : getD (c .before .before .before .before .args .times .now) (suc (c .before .before .before .before .args .after) + c .before .before .before .loop .k) 0 ≡ 1 = omega (arith, ap (λ (n : ℕ). getD (c .before .before .before .before .args .times .now) n 0) i) in (omega arith, rw add-one (below-suc (λ j. getD (c .before .before .before .before .args .times .now) (suc (c .before .before .before .before .args .after) + j) 0 ≡ 1) (c .before .before .before .loop .k) (c .before .before .before .loop .inv .1) e))
+loop-again c =
+    let p = c .before .before .before in let the-loop = p .loop in
+    let start = p .before in
+    let i : suc (start .args .after) + the-loop .k ≡ start .args .after + 1 + the-loop .k = omega arith in
+    let e : getD (start .args .times .now) (suc (start .args .after) + the-loop .k) 0 ≡ 1 =
+    omega (arith, ap (λ (n : ℕ). getD (start .args .times .now) n 0) i) in (
+      omega arith,
+      rw add-one (below-suc (λ j. getD (start .args .times .now) (suc (start .args .after) + j) 0 ≡ 1) (the-loop .k) (the-loop .inv .1) e),
+    )
 
 returns-2 : tie.Need-returns-2 Inv-loop μ-loop
-returns-2 c = let e : c .before .loop .k ≡ c .before .before .args .n = omega arith in λ i h. c .before .loop .inv .1 i (omega arith)
+returns-2 c =
+    let p = c .before in let the-loop = p .loop in
+    let e : the-loop .k ≡ c .before .before .args .n = omega arith in λ i h. the-loop .inv .1 i (omega arith)
 
 pub met-once-spec : {M : Type 1} → statement M
 met-once-spec =

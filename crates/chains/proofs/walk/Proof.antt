@@ -1,7 +1,7 @@
 use Rattle.layout.proofs.Bounds.{framed-bounded}
 use native.Mathlib.Omega.{arith}
 use borrow.Author.Needs.{needs}
-use Prim.Native.Nat.{_-_, _+_}
+use Prim.Native.Nat.{_-_}
 use Rattle.chains.proofs.Walking.{Walking, walk-starts, walk-ends, walk-lost, walk-turns, walk-out}
 use Rattle.chains.proofs.walk.Statement.{statement}
 use Rattle.chains.proofs.walk.Tie as tie
@@ -16,7 +16,9 @@ tier-count-requires : tie.Need-tier-count-requires Inv-loop μ-loop
 tier-count-requires c κs = framed-bounded (c .before .before .pre .0)
 
 loop-holds : tie.Need-loop-holds Inv-loop μ-loop
-loop-holds c = walk-starts _ _ _ _ _ (c .before .before .before .pre .3)
+loop-holds c =
+    let start = c .before .before .before in
+    walk-starts _ _ _ _ _ (start .pre .3)
 
 same-length : tie.Need-same-length Inv-loop μ-loop
 same-length c = search needs
@@ -28,13 +30,17 @@ same-length-2 : tie.Need-same-length-2 Inv-loop μ-loop
 same-length-2 c = search needs
 
 returns-2 : tie.Need-returns-2 Inv-loop μ-loop
-returns-2 c = walk-lost _ _ _ _ _ (c .before .before .before .before .loop .inv) (omega arith) (omega arith) (λ x. omega arith)
+returns-2 c =
+    let p = c .before .before .before .before in let the-loop = p .loop in
+    walk-lost _ _ _ _ _ (the-loop .inv) (omega arith) (omega arith) (λ x. omega arith)
 
 same-length-3 : tie.Need-same-length-3 Inv-loop μ-loop
 same-length-3 c = search needs
 
 returns-3 : tie.Need-returns-3 Inv-loop μ-loop
-returns-3 c = walk-lost _ _ _ _ _ (c .before .before .before .before .before .loop .inv) (omega arith) (omega arith) (λ x. omega arith)
+returns-3 c =
+    let p = c .before .before .before .before .before in let the-loop = p .loop in
+    walk-lost _ _ _ _ _ (the-loop .inv) (omega arith) (omega arith) (λ x. omega arith)
 
 mul-times : tie.Need-mul-times Inv-loop μ-loop
 mul-times c = search needs
@@ -43,7 +49,9 @@ slice-read-times : tie.Need-slice-read-times Inv-loop μ-loop
 slice-read-times c = search needs
 
 add-times : tie.Need-add-times Inv-loop μ-loop
-add-times c = omega (arith, c .before .before .before .before .before .before .loop .inv .bound (c .before .before .before .before .before .before .loop .t))
+add-times c =
+    let p = c .before .before .before .before .before .before in let the-loop = p .loop in
+    omega (arith, the-loop .inv .bound (the-loop .t))
 
 slice-write-times : tie.Need-slice-write-times Inv-loop μ-loop
 slice-write-times c = search needs
@@ -58,7 +66,9 @@ loop-less : tie.Need-loop-less Inv-loop μ-loop
 loop-less c = search needs
 
 loop-again : tie.Need-loop-again Inv-loop μ-loop
-loop-again c = walk-turns _ _ _ _ _ (c .before .before .before .before .before .before .before .loop .inv) (omega arith) (omega arith) (omega arith) (c .next-of .ensures)
+loop-again c =
+    let p = c .before .before .before .before .before .before .before in let the-loop = p .loop in
+    walk-turns _ _ _ _ _ (the-loop .inv) (omega arith) (omega arith) (omega arith) (c .next-of .ensures)
 
 same-length-4 : tie.Need-same-length-4 Inv-loop μ-loop
 same-length-4 c = search needs

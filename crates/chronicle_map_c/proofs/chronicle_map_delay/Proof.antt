@@ -1,7 +1,7 @@
 use Prim.Native.Nat.{ℕ}
 use mathlib.Core.Path.{refl}
 use lib.IntN.{ℤ, pos}
-use Rattle.pairs.specs.Delays.{Reply, askedReply}
+use Rattle.pairs.specs.Delays.{askedReply}
 use Rattle.chronicle_map_c.proofs.Telling.{told, told-part}
 use borrow.Author.Needs.{needs}
 use Rattle.chronicle_map_c.proofs.chronicle_map_delay.Statement.{statement}
@@ -45,7 +45,8 @@ returns-4 c = told askedReply (c .enum-told3 .given .1) (c .before .before .dela
 returns-5 : tie.Need-returns-5
 returns-5 c =
     let a = c .before .before in
-    told-part askedReply (a .stage .given .1) (a .before .before .delay .ensures) (λ (n : ℕ). record { number = n; delay = pos 0 }) refl (c .stage-number .ensures)
+    told-part askedReply (a .stage .given .1) (a .before .before .delay .ensures) (λ (n : ℕ). record { number = n; delay = pos 0 }) refl
+    (c .stage-number .ensures)
 
 pub chronicle-map-delay-spec : {M : Type 1} → statement M
 chronicle-map-delay-spec =

@@ -13,7 +13,9 @@ same-length : tie.Need-same-length
 same-length c = search needs
 
 returns : tie.Need-returns
-returns c = edited (c .answer-number .ensures) (c .before .before .before .remove .ensures)
+returns c =
+    let p = c .before .before .before in let remove = p .remove in
+    edited (c .answer-number .ensures) (remove .ensures)
 
 pub chronicle-map-remove-spec : {M : Type 1} → statement M
 chronicle-map-remove-spec =

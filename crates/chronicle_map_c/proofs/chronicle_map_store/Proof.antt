@@ -13,7 +13,9 @@ same-length : tie.Need-same-length
 same-length c = search needs
 
 returns : tie.Need-returns
-returns c = edited (c .answer-number .ensures) (c .before .before .before .store .ensures)
+returns c =
+    let p = c .before .before .before in let store = p .store in
+    edited (c .answer-number .ensures) (store .ensures)
 
 pub chronicle-map-store-spec : {M : Type 1} → statement M
 chronicle-map-store-spec =

@@ -24,7 +24,9 @@ mark-requires : tie.Need-mark-requires Inv-loop μ-loop
 mark-requires c κs = search needs
 
 returns : tie.Need-returns Inv-loop μ-loop
-returns c = λ f. c .if2 .taken (c .before .mark .ensures .0 ∙ f (c .before .before .before .before .loop .i) (omega arith))
+returns c =
+    let p = c .before .before .before .before in let the-loop = p .loop in
+    λ f. c .if2 .taken (c .before .mark .ensures .0 ∙ f (the-loop .i) (omega arith))
 
 add-i : tie.Need-add-i Inv-loop μ-loop
 add-i c = search needs
@@ -33,7 +35,9 @@ loop-less : tie.Need-loop-less Inv-loop μ-loop
 loop-less c = search needs
 
 loop-again : tie.Need-loop-again Inv-loop μ-loop
-loop-again c = (search needs, below-more _ _ (c .before .before .before .before .loop .inv .1) (sym (c .before .mark .ensures .0) ∙ c .if2 .left))
+loop-again c =
+    let p = c .before .before .before .before in let the-loop = p .loop in
+    (search needs, below-more _ _ (the-loop .inv .1) (sym (c .before .mark .ensures .0) ∙ c .if2 .left))
 
 returns-2 : tie.Need-returns-2 Inv-loop μ-loop
 returns-2 c = λ k h. c .before .before .loop .inv .1 k (omega arith)

@@ -23,19 +23,34 @@ loop-holds : tie.Need-loop-holds Inv-loop μ-loop
 loop-holds c = (search needs, whole-starts _ _)
 
 byte-of-requires : tie.Need-byte-of-requires Inv-loop μ-loop
-byte-of-requires c κs = (c .before .before .before .before .before .pre .0, c .before .before .before .before .before .pre .1, c .before .before .before .free-list-at .ensures, whole-room (c .before .loop .inv .1) (omega (arith, c .before .loop .inv .0)) .0, c .before .loop .inv .1 .even)
+byte-of-requires c κs =
+    let p = c .before in let the-loop = p .loop in
+    let p = p .before .before in let free-list-at = p .free-list-at in
+    let start = p .before .before in
+    (start .pre .0, start .pre .1, free-list-at .ensures, whole-room (the-loop .inv .1) (omega (arith, the-loop .inv .0)) .0, the-loop .inv .1 .even)
 
 returns : tie.Need-returns Inv-loop μ-loop
-returns c = whole-inside (c .before .before .before .loop .inv .1)
+returns c =
+    let p = c .before .before .before in let the-loop = p .loop in
+    whole-inside (the-loop .inv .1)
 
 add-i : tie.Need-add-i Inv-loop μ-loop
-add-i c = omega (arith, c .before .before .before .loop .inv .0, c .before .before .before .before .before .before .before .pre .0 .valid .chunks .1)
+add-i c =
+    let p = c .before .before .before in let the-loop = p .loop in
+    let start = p .before .before .before .before in
+    omega (arith, the-loop .inv .0, start .pre .0 .valid .chunks .1)
 
 loop-less : tie.Need-loop-less Inv-loop μ-loop
 loop-less c = search needs
 
 loop-again : tie.Need-loop-again Inv-loop μ-loop
-loop-again c = (c .before .before .before .loop .inv .0, whole-turns (c .before .before .before .loop .inv .1) (omega (arith, c .before .before .before .loop .inv .0)) (zeros-clear (c .before .before .before .before .before .before .before .args .z) (c .before .before .before .before .before .before .before .args .img .now) (c .before .before .before .before .before .before .before .args .t) (c .before .before .before .loop .i) _ (c .before .byte-of .ensures) (c .if1 .left)))
+loop-again c =
+    let p = c .before .before .before in let the-loop = p .loop in
+    let start = p .before .before .before .before in (
+      the-loop .inv .0,
+      whole-turns (the-loop .inv .1) (omega (arith, the-loop .inv .0))
+          (zeros-clear (start .args .z) (start .args .img .now) (start .args .t) (the-loop .i) _ (c .before .byte-of .ensures) (c .if1 .left)),
+    )
 
 returns-2 : tie.Need-returns-2 Inv-loop μ-loop
 returns-2 c = whole-inside (c .before .loop .inv .1)

@@ -20,31 +20,80 @@ first-free-requires : tie.Need-first-free-requires Inv-loop μ-loop
 first-free-requires c κs = search needs
 
 loop-holds : tie.Need-loop-holds Inv-loop μ-loop
-loop-holds c = free-starts (c .before .before .args .z) (c .before .before .args .img .now) (c .before .before .pre .1) (c .first-free .ensures)
+loop-holds c =
+    let start = c .before .before in
+    free-starts (start .args .z) (start .args .img .now) (start .pre .1) (c .first-free .ensures)
 
 slots-empty-requires : tie.Need-slots-empty-requires Inv-loop μ-loop
-slots-empty-requires c κs = (c .before .before .before .before .pre .0, free-tiers (c .before .before .before .before .args .z) (c .before .before .before .before .args .img .now) (c .before .before .before .before .pre .1) _ (through-in (c .before .before .before .before .args .z) (c .before .before .before .before .args .img .now) (c .before .loop .inv .1) (c .loop-test .taken)))
+slots-empty-requires c κs =
+    let start = c .before .before .before .before in (
+      start .pre .0,
+      free-tiers (start .args .z) (start .args .img .now) (start .pre .1) _
+          (through-in (start .args .z) (start .args .img .now) (c .before .loop .inv .1) (c .loop-test .taken)),
+    )
 
 returns : tie.Need-returns Inv-loop μ-loop
-returns c = through-lost (c .before .before .before .before .before .before .args .z) (c .before .before .before .before .before .before .args .img .now) (c .before .before .before .loop .inv .1) (c .before .before .loop-test .taken) (λ f. decided-false (c .before .slots-empty .result) (c .before .slots-empty .ensures) (not-true _ (c .if1 .taken)) (f .slotsEmpty))
+returns c =
+    let p = c .before in let slots-empty = p .slots-empty in
+    let p = p .before .before in let the-loop = p .loop in
+    let start = p .before .before .before in
+    through-lost (start .args .z) (start .args .img .now) (the-loop .inv .1) (c .before .before .loop-test .taken)
+    (λ f. decided-false (slots-empty .result) (slots-empty .ensures) (not-true _ (c .if1 .taken)) (f .slotsEmpty))
 
 all-clear-requires : tie.Need-all-clear-requires Inv-loop μ-loop
-all-clear-requires c κs = (c .before .before .before .before .before .before .pre .0, free-tiers (c .before .before .before .before .before .before .args .z) (c .before .before .before .before .before .before .args .img .now) (c .before .before .before .before .before .before .pre .1) _ (through-in (c .before .before .before .before .before .before .args .z) (c .before .before .before .before .before .before .args .img .now) (c .before .before .before .loop .inv .1) (c .before .before .loop-test .taken)))
+all-clear-requires c κs =
+    let p = c .before .before .before in let the-loop = p .loop in
+    let start = p .before .before .before in (
+      start .pre .0,
+      free-tiers (start .args .z) (start .args .img .now) (start .pre .1) _
+          (through-in (start .args .z) (start .args .img .now) (the-loop .inv .1) (c .before .before .loop-test .taken)),
+    )
 
 returns-2 : tie.Need-returns-2 Inv-loop μ-loop
-returns-2 c = through-lost (c .before .before .before .before .before .before .before .before .args .z) (c .before .before .before .before .before .before .before .before .args .img .now) (c .before .before .before .before .before .loop .inv .1) (c .before .before .before .before .loop-test .taken) (λ f. decided-false (c .before .all-clear .result) (c .before .all-clear .ensures) (not-true _ (c .if2 .taken)) (f .chunksClear))
+returns-2 c =
+    let p = c .before in let all-clear = p .all-clear in
+    let p = p .before .before .before in let loop-test = p .loop-test in
+    let p = p .before in let the-loop = p .loop in
+    let start = p .before .before .before in
+    through-lost (start .args .z) (start .args .img .now) (the-loop .inv .1) (loop-test .taken)
+    (λ f. decided-false (all-clear .result) (all-clear .ensures) (not-true _ (c .if2 .taken)) (f .chunksClear))
 
 next-of-requires : tie.Need-next-of-requires Inv-loop μ-loop
-next-of-requires c κs = (c .before .before .before .before .before .before .before .before .pre .0, free-tiers (c .before .before .before .before .before .before .before .before .args .z) (c .before .before .before .before .before .before .before .before .args .img .now) (c .before .before .before .before .before .before .before .before .pre .1) _ (through-in (c .before .before .before .before .before .before .before .before .args .z) (c .before .before .before .before .before .before .before .before .args .img .now) (c .before .before .before .before .before .loop .inv .1) (c .before .before .before .before .loop-test .taken)))
+next-of-requires c κs =
+    let p = c .before .before .before .before in let loop-test = p .loop-test in
+    let p = p .before in let the-loop = p .loop in
+    let start = p .before .before .before in (
+      start .pre .0,
+      free-tiers (start .args .z) (start .args .img .now) (start .pre .1) _
+          (through-in (start .args .z) (start .args .img .now) (the-loop .inv .1) (loop-test .taken)),
+    )
 
 loop-less : tie.Need-loop-less Inv-loop μ-loop
-loop-less c = through-less (c .before .before .before .before .before .before .before .before .before .args .z) (c .before .before .before .before .before .before .before .before .before .args .img .now) (c .before .before .before .before .before .before .loop .inv .1) (c .before .before .before .before .before .loop-test .taken) (c .next-of .ensures)
+loop-less c =
+    let p = c .before .before .before .before .before in let loop-test = p .loop-test in
+    let p = p .before in let the-loop = p .loop in
+    let start = p .before .before .before in
+    through-less (start .args .z) (start .args .img .now) (the-loop .inv .1) (loop-test .taken) (c .next-of .ensures)
 
 loop-again : tie.Need-loop-again Inv-loop μ-loop
-loop-again c = free-turns (c .before .before .before .before .before .before .before .before .before .args .z) (c .before .before .before .before .before .before .before .before .before .args .img .now) (c .before .before .before .before .before .before .loop .inv) (c .before .before .before .before .before .loop-test .taken) (record { slotsEmpty = decided-true (c .before .before .before .before .slots-empty .result) (c .before .before .before .before .slots-empty .ensures) (not-false _ (c .before .before .before .if1 .left)); chunksClear = decided-true (c .before .before .all-clear .result) (c .before .before .all-clear .ensures) (not-false _ (c .before .if2 .left)) }) (c .next-of .ensures)
+loop-again c =
+    let p = c .before .before in let all-clear = p .all-clear in
+    let p = p .before in let if1 = p .if1 in
+    let p = p .before in let slots-empty = p .slots-empty in
+    let p = p .before in let loop-test = p .loop-test in
+    let p = p .before in let the-loop = p .loop in
+    let start = p .before .before .before in
+    free-turns (start .args .z) (start .args .img .now) (the-loop .inv) (loop-test .taken)
+    (record {
+      slotsEmpty = decided-true (slots-empty .result) (slots-empty .ensures) (not-false _ (if1 .left));
+      chunksClear = decided-true (all-clear .result) (all-clear .ensures) (not-false _ (c .before .if2 .left));
+    })
+    (c .next-of .ensures)
 
 returns-3 : tie.Need-returns-3 Inv-loop μ-loop
-returns-3 c = through-all (c .before .before .before .before .args .z) (c .before .before .before .before .args .img .now) (c .before .loop .inv .1) (c .loop-test .left)
+returns-3 c =
+    let start = c .before .before .before .before in
+    through-all (start .args .z) (start .args .img .now) (c .before .loop .inv .1) (c .loop-test .left)
 
 pub free-fits-spec : {M : Type 1} → statement M
 free-fits-spec =

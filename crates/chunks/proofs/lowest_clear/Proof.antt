@@ -26,7 +26,9 @@ mark-requires : tie.Need-mark-requires Inv-loop μ-loop
 mark-requires c κs = search needs
 
 returns : tie.Need-returns Inv-loop μ-loop
-returns c = lowest-at _ _ _ _ (omega arith) (c .before .before .before .before .loop .inv .1) (sym (c .before .mark .ensures .0) ∙ c .if2 .taken)
+returns c =
+    let p = c .before .before .before .before in let the-loop = p .loop in
+    lowest-at _ _ _ _ (omega arith) (the-loop .inv .1) (sym (c .before .mark .ensures .0) ∙ c .if2 .taken)
 
 add-i : tie.Need-add-i Inv-loop μ-loop
 add-i c = search needs
@@ -35,10 +37,16 @@ loop-less : tie.Need-loop-less Inv-loop μ-loop
 loop-less c = search needs
 
 loop-again : tie.Need-loop-again Inv-loop μ-loop
-loop-again c = (search needs, below-more _ _ (c .before .before .before .before .loop .inv .1) (λ e. c .if2 .left (c .before .mark .ensures .0 ∙ e)))
+loop-again c =
+    let p = c .before .before .before .before in let the-loop = p .loop in
+    (search needs, below-more _ _ (the-loop .inv .1) (λ e. c .if2 .left (c .before .mark .ensures .0 ∙ e)))
 
 returns-2 : tie.Need-returns-2 Inv-loop μ-loop
-returns-2 c = let e : c .before .before .loop .i ≡ c .before .before .before .before .before .args .z .settings .chunks = omega arith in rw e (lowest-none _ _ _ (λ k h. c .before .before .loop .inv .1 k (omega arith)))
+returns-2 c =
+    let p = c .before .before in let the-loop = p .loop in
+    let start = p .before .before .before in
+    let e : the-loop .i ≡ start .args .z .settings .chunks = omega arith in
+    rw e (lowest-none _ _ _ (λ k h. the-loop .inv .1 k (omega arith)))
 
 pub lowest-clear-spec : {M : Type 1} → statement M
 lowest-clear-spec =

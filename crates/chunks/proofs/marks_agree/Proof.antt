@@ -10,7 +10,8 @@ use Rattle.chunks.proofs.marks_agree.Statement.{statement}
 use Rattle.chunks.proofs.marks_agree.Tie as tie
 
 abbrev Inv-loop : tie.InvT-loop
-Inv-loop z img t covered first last marked₀ i₀ marked i = (i ≤ z .settings .chunks) × (last + 1 ≡ z .settings .chunks) × MarksBelow z img t covered i (Same marked)
+Inv-loop z img t covered first last marked₀ i₀ marked i =
+    (i ≤ z .settings .chunks) × (last + 1 ≡ z .settings .chunks) × MarksBelow z img t covered i (Same marked)
 
 abbrev μ-loop : tie.MeasureT-loop
 μ-loop z img t covered first last marked₀ i₀ marked i = z .settings .chunks - i
@@ -25,7 +26,11 @@ enum-told : tie.Need-enum-told Inv-loop μ-loop
 enum-told c = search needs
 
 returns : tie.Need-returns Inv-loop μ-loop
-returns c = differ-taken (c .before .before .before .before .before .args .z) (c .before .before .before .before .before .args .img .now) (c .before .before .before .before .before .args .t) _ _ _ (c .before .before .bytes-agree .result) (c .before .before .bytes-agree .ensures) (c .enum-told .given .1) (omega arith)
+returns c =
+    let p = c .before .before in let bytes-agree = p .bytes-agree in
+    let start = p .before .before .before in
+    differ-taken (start .args .z) (start .args .img .now) (start .args .t) _ _ _ (bytes-agree .result) (bytes-agree .ensures)
+    (c .enum-told .given .1) (omega arith)
 
 sub-last : tie.Need-sub-last Inv-loop μ-loop
 sub-last c = search needs
@@ -34,7 +39,15 @@ mul-i : tie.Need-mul-i Inv-loop μ-loop
 mul-i c = search needs
 
 loop-holds : tie.Need-loop-holds Inv-loop μ-loop
-loop-holds c = (omega arith, search needs, same-taken (c .before .before .before .before .before .before .before .before .args .z) (c .before .before .before .before .before .before .before .before .args .img .now) (c .before .before .before .before .before .before .before .before .args .t) _ _ (c .before .before .before .before .before .bytes-agree .result) (c .before .before .before .before .before .bytes-agree .ensures) (c .before .before .before .first .given .1))
+loop-holds c =
+    let p = c .before .before .before in let first = p .first in
+    let p = p .before .before in let bytes-agree = p .bytes-agree in
+    let start = p .before .before .before in (
+      omega arith,
+      search needs,
+      same-taken (start .args .z) (start .args .img .now) (start .args .t) _ _ (bytes-agree .result)
+          (bytes-agree .ensures) (first .given .1),
+    )
 
 mark-requires : tie.Need-mark-requires Inv-loop μ-loop
 mark-requires c κs = search needs
@@ -49,25 +62,56 @@ cast-if1 : tie.Need-cast-if1 Inv-loop μ-loop
 cast-if1 c = search needs
 
 returns-2 : tie.Need-returns-2 Inv-loop μ-loop
-returns-2 c = λ f. c .if1 .taken (f (c .before .before .before .before .loop .i) (omega arith) ∙ sym (c .before .before .mark .ensures .0))
+returns-2 c =
+    let p = c .before .before .before .before in let the-loop = p .loop in
+    λ f. c .if1 .taken (f (the-loop .i) (omega arith) ∙ sym (c .before .before .mark .ensures .0))
 
 cast-marked : tie.Need-cast-marked Inv-loop μ-loop
 cast-marked c = search needs
 
 add-marked : tie.Need-add-marked Inv-loop μ-loop
-add-marked c = omega (arith, marked-le (c .before .before .before .before .before .before .before .before .before .before .before .before .before .args .z) (c .before .before .before .before .before .before .before .before .before .before .before .before .before .args .img .now) (c .before .before .before .before .before .before .before .before .before .before .before .before .before .args .t) (c .before .before .before .before .loop .i), c .before .before .before .before .loop .inv .2 .1, c .before .before .mark .ensures .1, c .before .before .before .before .before .before .before .before .before .before .before .before .before .pre .0 .valid .chunks .1)
+add-marked c =
+    let p = c .before .before .before .before in let the-loop = p .loop in
+    let start = p .before .before .before .before .before .before .before .before .before in
+    omega (
+      arith,
+      marked-le (start .args .z) (start .args .img .now) (start .args .t) (the-loop .i),
+      the-loop .inv .2 .1,
+      c .before .before .mark .ensures .1,
+      start .pre .0 .valid .chunks .1,
+    )
 
 add-i : tie.Need-add-i Inv-loop μ-loop
-add-i c = omega (arith, c .before .before .before .before .loop .inv .1, c .before .before .before .before .before .before .before .before .before .before .before .before .before .pre .0 .valid .chunks .1)
+add-i c =
+    let p = c .before .before .before .before in let the-loop = p .loop in
+    let start = p .before .before .before .before .before .before .before .before .before in
+    omega (arith, the-loop .inv .1, start .pre .0 .valid .chunks .1)
 
 loop-less : tie.Need-loop-less Inv-loop μ-loop
 loop-less c = search needs
 
 loop-again : tie.Need-loop-again Inv-loop μ-loop
-loop-again c = (omega arith, omega arith, (below-more _ _ (c .before .before .before .before .loop .inv .2 .0) (c .if1 .left ∙ c .before .before .mark .ensures .0), omega (arith, marked-more (c .before .before .before .before .before .before .before .before .before .before .before .before .before .args .z) (c .before .before .before .before .before .before .before .before .before .before .before .before .before .args .img .now) (c .before .before .before .before .before .before .before .before .before .before .before .before .before .args .t) (c .before .before .before .before .loop .i), c .before .before .before .before .loop .inv .2 .1, c .before .before .mark .ensures .0)))
+loop-again c =
+    let p = c .before .before in let mark = p .mark in
+    let p = p .before .before in let the-loop = p .loop in
+    let start = p .before .before .before .before .before .before .before .before .before in (
+      omega arith,
+      omega arith,
+      (
+        below-more _ _ (the-loop .inv .2 .0) (c .if1 .left ∙ mark .ensures .0),
+        omega
+            (arith, marked-more (start .args .z) (start .args .img .now) (start .args .t) (the-loop .i), the-loop .inv .2 .1, mark .ensures .0),
+      ),
+    )
 
 returns-3 : tie.Need-returns-3 Inv-loop μ-loop
-returns-3 c = ((λ k h. c .before .loop .inv .2 .0 k (omega arith)), c .before .loop .inv .2 .1 ∙ ap (markedBelow (c .before .before .before .before .before .before .before .before .before .before .args .z) (c .before .before .before .before .before .before .before .before .before .before .args .img .now) (c .before .before .before .before .before .before .before .before .before .before .args .t)) (omega arith))
+returns-3 c =
+    let p = c .before in let the-loop = p .loop in
+    let start = p .before .before .before .before .before .before .before .before .before in (
+      (λ k h. the-loop .inv .2 .0 k (omega arith)),
+      the-loop .inv .2 .1 ∙ ap
+          (markedBelow (start .args .z) (start .args .img .now) (start .args .t)) (omega arith),
+    )
 
 pub marks-agree-spec : {M : Type 1} → statement M
 marks-agree-spec =

@@ -21,7 +21,9 @@ slot-requires : tie.Need-slot-requires Inv-loop μ-loop
 slot-requires c κs = search needs
 
 returns : tie.Need-returns Inv-loop μ-loop
-returns c = λ f. c .if2 .taken (c .before .slot .ensures ∙ f (c .before .before .before .before .loop .j) (omega arith))
+returns c =
+    let p = c .before .before .before .before in let the-loop = p .loop in
+    λ f. c .if2 .taken (c .before .slot .ensures ∙ f (the-loop .j) (omega arith))
 
 add-j : tie.Need-add-j Inv-loop μ-loop
 add-j c = search needs
@@ -30,7 +32,9 @@ loop-less : tie.Need-loop-less Inv-loop μ-loop
 loop-less c = search needs
 
 loop-again : tie.Need-loop-again Inv-loop μ-loop
-loop-again c = (search needs, below-more _ _ (c .before .before .before .before .loop .inv .1) (sym (c .before .slot .ensures) ∙ c .if2 .left))
+loop-again c =
+    let p = c .before .before .before .before in let the-loop = p .loop in
+    (search needs, below-more _ _ (the-loop .inv .1) (sym (c .before .slot .ensures) ∙ c .if2 .left))
 
 returns-2 : tie.Need-returns-2 Inv-loop μ-loop
 returns-2 c = λ i h. c .before .before .loop .inv .1 i (omega arith)

@@ -18,37 +18,63 @@ Inv-loop z img s sum₀ t₀ sum t = Summing z img s sum t
 abbrev μ-loop : tie.MeasureT-loop
 μ-loop z img s sum₀ t₀ sum t = length (follow z img (tiers z) t)
 
--- src/lib.rt:113:17
 add-t : tie.Need-add-t Inv-loop μ-loop
 add-t c = search needs
 
--- src/lib.rt:114:5
 loop-holds : tie.Need-loop-holds Inv-loop μ-loop
-loop-holds c = summing-starts (c .before .args .z) (c .before .args .img .now) (c .before .args .s) (c .before .pre .3)
+loop-holds c =
+    let start = c .before in
+    summing-starts (start .args .z) (start .args .img .now) (start .args .s) (start .pre .3)
 
--- src/lib.rt:115:27
 tier-contents-requires : tie.Need-tier-contents-requires Inv-loop μ-loop
-tier-contents-requires c κs = (c .before .before .before .pre .0, c .before .before .before .pre .1, c .before .before .before .pre .2, c .before .before .before .pre .1 (c .before .before .before .args .s) (c .before .before .before .pre .2) _ (through-in (c .before .before .before .args .z) (c .before .before .before .args .img .now) (c .before .loop .inv .through) (c .loop-test .taken)))
+tier-contents-requires c κs =
+    let start = c .before .before .before in (
+      start .pre .0,
+      start .pre .1,
+      start .pre .2,
+      start .pre .1 (start .args .s) (start .pre .2) _
+          (through-in (start .args .z) (start .args .img .now) (c .before .loop .inv .through) (c .loop-test .taken)),
+    )
 
--- src/lib.rt:115:9
 joined-requires : tie.Need-joined-requires Inv-loop μ-loop
-joined-requires c κs = (summing-small (c .before .before .before .before .args .z) (c .before .before .before .before .args .img .now) (c .before .before .loop .inv) (c .before .before .before .before .pre .0 .valid .slots .1 .1) (c .before .before .before .before .pre .0 .valid .chunks .1) (c .before .before .before .before .pre .0 .tierCount), tier-small (c .before .before .before .before .args .z) (c .before .before .before .before .args .img .now) (c .before .before .before .before .args .s) (c .before .before .loop .t) (c .tier-contents .result) (c .before .before .before .before .pre .0 .valid .slots .1 .1) (c .before .before .before .before .pre .0 .valid .chunks .1) (c .tier-contents .ensures))
+joined-requires c κs =
+    let p = c .before .before in let the-loop = p .loop in
+    let start = p .before .before in (
+      summing-small (start .args .z) (start .args .img .now) (the-loop .inv) (start .pre .0 .valid .slots .1 .1)
+          (start .pre .0 .valid .chunks .1) (start .pre .0 .tierCount),
+      tier-small (start .args .z) (start .args .img .now) (start .args .s)
+          (the-loop .t) (c .tier-contents .result) (start .pre .0 .valid .slots .1 .1) (start .pre .0 .valid .chunks .1)
+          (c .tier-contents .ensures),
+    )
 
--- src/lib.rt:116:13
 next-of-requires : tie.Need-next-of-requires Inv-loop μ-loop
-next-of-requires c κs = (c .before .before .before .before .before .pre .0, c .before .before .before .before .before .pre .1 (c .before .before .before .before .before .args .s) (c .before .before .before .before .before .pre .2) _ (through-in (c .before .before .before .before .before .args .z) (c .before .before .before .before .before .args .img .now) (c .before .before .before .loop .inv .through) (c .before .before .loop-test .taken)))
+next-of-requires c κs =
+    let p = c .before .before .before in let the-loop = p .loop in
+    let start = p .before .before in (
+      start .pre .0,
+      start .pre .1 (start .args .s) (start .pre .2) _
+          (through-in (start .args .z) (start .args .img .now) (the-loop .inv .through) (c .before .before .loop-test .taken)),
+    )
 
--- src/lib.rt:114:5
 loop-less : tie.Need-loop-less Inv-loop μ-loop
-loop-less c = through-less (c .before .before .before .before .before .before .args .z) (c .before .before .before .before .before .before .args .img .now) (c .before .before .before .before .loop .inv .through) (c .before .before .before .loop-test .taken) (c .next-of .ensures)
+loop-less c =
+    let p = c .before .before .before in let loop-test = p .loop-test in
+    let p = p .before in let the-loop = p .loop in
+    let start = p .before .before in
+    through-less (start .args .z) (start .args .img .now) (the-loop .inv .through) (loop-test .taken) (c .next-of .ensures)
 
--- src/lib.rt:114:5
 loop-again : tie.Need-loop-again Inv-loop μ-loop
-loop-again c = summing-turns (c .before .before .before .before .before .before .args .z) (c .before .before .before .before .before .before .args .img .now) (c .before .before .before .before .loop .inv) (c .before .before .before .loop-test .taken) (c .before .before .tier-contents .ensures) (c .before .joined .ensures) (c .next-of .ensures)
+loop-again c =
+    let p = c .before .before .before in let loop-test = p .loop-test in
+    let p = p .before in let the-loop = p .loop in
+    let start = p .before .before in
+    summing-turns (start .args .z) (start .args .img .now) (the-loop .inv) (loop-test .taken) (c .before .before .tier-contents .ensures)
+    (c .before .joined .ensures) (c .next-of .ensures)
 
--- src/lib.rt:108:1
 returns : tie.Need-returns Inv-loop μ-loop
-returns c = summing-ends (c .before .before .before .args .z) (c .before .before .before .args .img .now) (c .before .loop .inv) (c .loop-test .left)
+returns c =
+    let start = c .before .before .before in
+    summing-ends (start .args .z) (start .args .img .now) (c .before .loop .inv) (c .loop-test .left)
 
 pub chain-contents-spec : {M : Type 1} → statement M
 chain-contents-spec =

@@ -15,33 +15,47 @@ Inv-loop z img sum₀ s₀ sum s = AllSumming z img sum s
 abbrev μ-loop : tie.MeasureT-loop
 μ-loop z img sum₀ s₀ sum s = z .settings .segments - s
 
--- src/lib.rt:128:5
 loop-holds : tie.Need-loop-holds Inv-loop μ-loop
-loop-holds c = all-starts (c .before .args .z) (c .before .args .img .now)
+loop-holds c =
+    let start = c .before in
+    all-starts (start .args .z) (start .args .img .now)
 
--- src/lib.rt:129:27
 chain-contents-requires : tie.Need-chain-contents-requires Inv-loop μ-loop
-chain-contents-requires c κs = (c .before .before .before .before .pre .0, c .before .before .before .before .pre .1, c .if1 .taken, c .before .before .before .before .pre .2 (c .before .before .loop .s) (c .if1 .taken))
+chain-contents-requires c κs =
+    let start = c .before .before .before .before in
+    (start .pre .0, start .pre .1, c .if1 .taken, start .pre .2 (c .before .before .loop .s) (c .if1 .taken))
 
--- src/lib.rt:129:9
 joined-requires : tie.Need-joined-requires Inv-loop μ-loop
-joined-requires c κs = (all-small (c .before .before .before .before .before .args .z) (c .before .before .before .before .before .args .img .now) (c .before .before .before .loop .inv) (c .before .before .before .before .before .pre .0 .valid .segments .1 .1), chain-small (c .before .before .before .before .before .args .z) (c .before .before .before .before .before .args .img .now) (c .before .before .before .before .before .pre .0 .valid .slots .1 .1) (c .before .before .before .before .before .pre .0 .valid .chunks .1) (c .before .before .before .before .before .pre .0 .tierCount) (c .before .before .before .loop .s) (c .chain-contents .result) (c .chain-contents .ensures))
+joined-requires c κs =
+    let p = c .before .before .before in let the-loop = p .loop in
+    let start = p .before .before in (
+      all-small (start .args .z) (start .args .img .now) (the-loop .inv) (start .pre .0 .valid .segments .1 .1),
+      chain-small (start .args .z)
+          (start .args .img .now) (start .pre .0 .valid .slots .1 .1) (start .pre .0 .valid .chunks .1) (start .pre .0 .tierCount) (the-loop .s)
+          (c .chain-contents .result) (c .chain-contents .ensures),
+    )
 
--- src/lib.rt:130:9
 add-s : tie.Need-add-s Inv-loop μ-loop
 add-s c = search needs
 
--- src/lib.rt:128:5
 loop-less : tie.Need-loop-less Inv-loop μ-loop
 loop-less c = omega (arith, c .before .before .if1 .taken)
 
--- src/lib.rt:128:5
 loop-again : tie.Need-loop-again Inv-loop μ-loop
-loop-again c = all-turns (c .before .before .before .before .before .before .args .z) (c .before .before .before .before .before .before .args .img .now) (c .before .before .before .before .loop .inv) (c .before .before .before .before .before .before .pre .0 .valid .slots .1 .1) (c .before .before .before .before .before .before .pre .0 .valid .chunks .1) (c .before .before .before .before .before .before .pre .0 .tierCount) (c .before .before .if1 .taken) (c .before .chain-contents .ensures) (c .joined .ensures)
+loop-again c =
+    let p = c .before .before .before .before in let the-loop = p .loop in
+    let start = p .before .before in
+    all-turns (start .args .z) (start .args .img .now) (the-loop .inv) (start .pre .0 .valid .slots .1 .1) (start .pre .0 .valid .chunks .1)
+    (start .pre .0 .tierCount) (c .before .before .if1 .taken) (c .before .chain-contents .ensures) (c .joined .ensures)
 
--- src/lib.rt:122:1
 returns : tie.Need-returns Inv-loop μ-loop
-returns c = (all-ends (c .before .before .before .before .args .z) (c .before .before .before .before .args .img .now) (c .before .before .loop .inv) (omega (arith, c .if1 .left)), all-small (c .before .before .before .before .args .z) (c .before .before .before .before .args .img .now) (c .before .before .loop .inv) (c .before .before .before .before .pre .0 .valid .segments .1 .1))
+returns c =
+    let p = c .before .before in let the-loop = p .loop in
+    let start = p .before .before in (
+      all-ends (start .args .z) (start .args .img .now) (the-loop .inv) (omega (arith, c .if1 .left)),
+      all-small (start .args .z)
+          (start .args .img .now) (the-loop .inv) (start .pre .0 .valid .segments .1 .1),
+    )
 
 pub chained-contents-spec : {M : Type 1} → statement M
 chained-contents-spec =

@@ -10,21 +10,25 @@ use Rattle.contents.proofs.chained_contents.Reads as chained-contents-r
 use Rattle.contents.proofs.free_contents.Reads as free-contents-reads
 use Rattle.contents.proofs.joined.Reads as joined-reads
 
--- src/lib.rt:151:12
 chained-contents-requires : tie.Need-chained-contents-requires
 chained-contents-requires c κs = search needs
 
--- src/lib.rt:151:38
 free-contents-requires : tie.Need-free-contents-requires
 free-contents-requires c κs = search needs
 
--- src/lib.rt:151:5
 joined-requires : tie.Need-joined-requires
-joined-requires c κs = (c .before .chained-contents .ensures .1, says-small 4294967296 (omega arith) (omega arith) (c .free-contents .result) (c .free-contents .ensures))
+joined-requires c κs = (
+  c .before .chained-contents .ensures .1,
+  says-small 4294967296 (omega arith) (omega arith) (c .free-contents .result) (c .free-contents .ensures),
+)
 
--- src/lib.rt:147:1
 returns : tie.Need-returns
-returns c = contents-told (c .before .before .before .before .args .z) (c .before .before .before .before .args .img .now) (record { bytes = λ i. omega (arith, c .before .before .before .shared-slice-known .given i); framed = c .before .before .before .before .pre .0 }) (c .before .before .before .before .pre .1) (c .before .before .chained-contents .ensures .0) (c .before .free-contents .ensures) (c .joined .ensures)
+returns c =
+    let p = c .before .before .before in let shared-slice-known = p .shared-slice-known in
+    let start = p .before in
+    contents-told (start .args .z) (start .args .img .now)
+    (record { bytes = λ i. omega (arith, shared-slice-known .given i); framed = start .pre .0 }) (start .pre .1)
+    (c .before .before .chained-contents .ensures .0) (c .before .free-contents .ensures) (c .joined .ensures)
 
 pub contents-of-spec : {M : Type 1} → statement M
 contents-of-spec =

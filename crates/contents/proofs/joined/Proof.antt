@@ -9,77 +9,77 @@ use Rattle.contents.proofs.joined.Tie as tie
 use Rattle.contents.proofs.joined.Reads as reads
 use Rattle.contents.proofs.joined.Lts as lts
 
--- src/lib.rt:30:33
 enum-told : tie.Need-enum-told
 enum-told c = search needs
 
--- src/lib.rt:31:32
 enum-told-2 : tie.Need-enum-told-2
 enum-told-2 c = search needs
 
--- src/lib.rt:32:37
 enum-told-3 : tie.Need-enum-told-3
 enum-told-3 c = search needs
 
--- src/lib.rt:33:36
 enum-told-4 : tie.Need-enum-told-4
 enum-told-4 c = search needs
 
--- src/lib.rt:34:36
 enum-told-5 : tie.Need-enum-told-5
 enum-told-5 c = search needs
 
--- src/lib.rt:36:23
 enum-known-a : tie.Need-enum-known-a
 enum-known-a c = search needs
 
--- src/lib.rt:37:37
 enum-told-6 : tie.Need-enum-told-6
 enum-told-6 c = search needs
 
--- src/lib.rt:38:36
 enum-told-7 : tie.Need-enum-told-7
 enum-told-7 c = search needs
 
--- src/lib.rt:39:27
 enum-known-b : tie.Need-enum-known-b
 enum-known-b c = search needs
 
--- src/lib.rt:39:50
 add-t10 : tie.Need-add-t10
-add-t10 c = omega (arith, can-add (c .before .before .before .before .before .before .args .a) (c .before .before .before .before .before .before .args .b) (c .before .before .before .before .before .before .pre .0) (c .before .before .before .before .before .before .pre .1) (c .before .before .before .before .a .given .0 .0) (c .before .before .before .before .a .given .0 .1 .0) (c .before .before .before .before .a .given .1) (c .before .b .given .0 .0) (c .before .b .given .0 .1 .0) (c .before .b .given .1))
+add-t10 c =
+    let p = c .before in let b2 = p .b in
+    let p = p .before .before .before in let a2 = p .a in
+    let start = p .before .before in
+    omega (
+      arith,
+      can-add (start .args .a) (start .args .b) (start .pre .0) (start .pre .1) (a2 .given .0 .0) (a2 .given .0 .1 .0) (a2 .given .1)
+          (b2 .given .0 .0) (b2 .given .0 .1 .0) (b2 .given .1),
+    )
 
--- src/lib.rt:39:63
 add-t11 : tie.Need-add-t11
-add-t11 c = omega (arith, can-add (c .before .before .before .before .before .before .args .a) (c .before .before .before .before .before .before .args .b) (c .before .before .before .before .before .before .pre .0) (c .before .before .before .before .before .before .pre .1) (c .before .before .before .before .a .given .0 .0) (c .before .before .before .before .a .given .0 .1 .0) (c .before .before .before .before .a .given .1) (c .before .b .given .0 .0) (c .before .b .given .0 .1 .0) (c .before .b .given .1))
+add-t11 c =
+    let p = c .before in let b2 = p .b in
+    let p = p .before .before .before in let a2 = p .a in
+    let start = p .before .before in
+    omega (
+      arith,
+      can-add (start .args .a) (start .args .b) (start .pre .0) (start .pre .1) (a2 .given .0 .0) (a2 .given .0 .1 .0) (a2 .given .1)
+          (b2 .given .0 .0) (b2 .given .0 .1 .0) (b2 .given .1),
+    )
 
--- src/lib.rt:25:1
 returns : tie.Need-returns
 returns c = search needs
 
--- src/lib.rt:25:1
 returns-2 : tie.Need-returns-2
 returns-2 c = search needs
 
--- src/lib.rt:25:1
 returns-3 : tie.Need-returns-3
 returns-3 c = search needs
 
--- src/lib.rt:25:1
 returns-4 : tie.Need-returns-4
 returns-4 c = search needs
 
--- src/lib.rt:25:1
 returns-5 : tie.Need-returns-5
 returns-5 c = search needs
 
--- src/lib.rt:25:1
 returns-6 : tie.Need-returns-6
 returns-6 c = search needs
 
--- src/lib.rt:25:1
 returns-7 : tie.Need-returns-7
-returns-7 c = sym (ap₂ joined (c .before .before .before .before .a .given .1) (c .before .b .given .1))
+returns-7 c =
+    let p = c .before .before .before .before in let a = p .a in
+    sym (ap₂ joined (a .given .1) (c .before .b .given .1))
 
 pub joined-spec : {M : Type 1} → statement M
 joined-spec =

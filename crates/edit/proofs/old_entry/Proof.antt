@@ -9,37 +9,62 @@ use Rattle.entries.proofs.read.chunk_of.Reads as chunk-of-reads
 use Rattle.entries.proofs.read.entry_at.Reads as entry-at-reads
 use Rattle.search.proofs.search.Reads as search-reads
 
--- src/lib.rt:23:27
 search-requires : tie.Need-search-requires
-search-requires c κs = (sound-framed (c .before .before .args .z) (c .before .before .args .img .now) (c .before .before .pre), sound-tiers (c .before .before .args .z) (c .before .before .args .img .now) (c .before .before .pre))
+search-requires c κs =
+    let start = c .before .before in
+    (sound-framed (start .args .z) (start .args .img .now) (start .pre), sound-tiers (start .args .z) (start .args .img .now) (start .pre))
 
--- src/lib.rt:23:19
 enum-known-t : tie.Need-enum-known-t
 enum-known-t c = search needs
 
--- src/lib.rt:24:9
 enum-told : tie.Need-enum-told
 enum-told c = search needs
 
--- src/lib.rt:24:9
 returns : tie.Need-returns
-returns c = old-absent (c .before .before .before .before .before .args .z) (c .before .before .before .before .before .args .img .now) (c .before .before .before .before .before .pre) (c .before .before .before .before .before .args .key .now) (c .before .before .search .result) (c .before .before .search .ensures) (c .enum-told .given .0 .0) (c .enum-told .given .0 .1 .0) (c .enum-told .given .1)
+returns c =
+    let p = c .before .before in let the-search = p .search in
+    let start = p .before .before .before in
+    old-absent (start .args .z) (start .args .img .now) (start .pre) (start .args .key .now) (the-search .result) (the-search .ensures)
+    (c .enum-told .given .0 .0) (c .enum-told .given .0 .1 .0) (c .enum-told .given .1)
 
--- src/lib.rt:31:9
 entry-at-requires : tie.Need-entry-at-requires
-entry-at-requires c κs = let i = old-in (c .before .before .before .before .before .before .args .z) (c .before .before .before .before .before .before .args .img .now) (c .before .before .before .before .before .before .pre) (c .before .before .before .before .before .before .args .key .now) (c .before .before .before .search .result) (c .before .before .before .search .ensures) (c .before .t .given .0 .0) (c .before .t .given .0 .1 .0) (c .before .t .given .1) in (sound-framed (c .before .before .before .before .before .before .args .z) (c .before .before .before .before .before .before .args .img .now) (c .before .before .before .before .before .before .pre), i .0, i .1)
+entry-at-requires c κs =
+    let p = c .before in let t = p .t in
+    let p = p .before .before in let the-search = p .search in
+    let start = p .before .before .before in
+    let i =
+    old-in (start .args .z) (start .args .img .now) (start .pre) (start .args .key .now) (the-search .result) (the-search .ensures)
+    (t .given .0 .0) (t .given .0 .1 .0) (t .given .1) in
+    (sound-framed (start .args .z) (start .args .img .now) (start .pre), i .0, i .1)
 
--- src/lib.rt:35:16
 chunk-of-requires : tie.Need-chunk-of-requires
-chunk-of-requires c κs = let i = old-in (c .before .before .before .before .before .before .before .args .z) (c .before .before .before .before .before .before .before .args .img .now) (c .before .before .before .before .before .before .before .pre) (c .before .before .before .before .before .before .before .args .key .now) (c .before .before .before .before .search .result) (c .before .before .before .before .search .ensures) (c .before .before .t .given .0 .0) (c .before .before .t .given .0 .1 .0) (c .before .before .t .given .1) in (sound-framed (c .before .before .before .before .before .before .before .args .z) (c .before .before .before .before .before .before .before .args .img .now) (c .before .before .before .before .before .before .before .pre), i .0, i .1)
+chunk-of-requires c κs =
+    let p = c .before .before in let t = p .t in
+    let p = p .before .before in let the-search = p .search in
+    let start = p .before .before .before in
+    let i =
+    old-in (start .args .z) (start .args .img .now) (start .pre) (start .args .key .now) (the-search .result) (the-search .ensures)
+    (t .given .0 .0) (t .given .0 .1 .0) (t .given .1) in
+    (sound-framed (start .args .z) (start .args .img .now) (start .pre), i .0, i .1)
 
--- src/lib.rt:36:17
 chunks-for-requires : tie.Need-chunks-for-requires
-chunks-for-requires c κs = let i = entry-lengths (c .before .before .before .before .before .before .before .before .args .z) (c .before .before .before .before .before .before .before .before .args .img .now) (c .before .before .before .t .given .0 .0) (c .before .before .before .t .given .0 .1 .0) (c .before .entry-at .result) (c .before .entry-at .ensures) in (c .before .before .before .before .before .before .before .before .pre .valid, i .0, i .1)
+chunks-for-requires c κs =
+    let p = c .before in let entry-at = p .entry-at in
+    let p = p .before .before in let t = p .t in
+    let start = p .before .before .before .before .before in
+    let i =
+    entry-lengths (start .args .z) (start .args .img .now) (t .given .0 .0) (t .given .0 .1 .0) (entry-at .result) (entry-at .ensures)
+    in
+    (start .pre .valid, i .0, i .1)
 
--- src/lib.rt:19:1
 returns-2 : tie.Need-returns-2
-returns-2 c = old-found (c .before .before .before .before .before .before .before .before .before .args .z) (c .before .before .before .before .before .before .before .before .before .args .img .now) (c .before .before .before .before .before .before .before .before .before .pre) (c .before .before .before .before .before .before .before .before .before .args .key .now) (c .before .before .before .before .before .before .search .result) (c .before .before .before .before .before .before .search .ensures) (c .before .before .before .before .t .given .0 .0) (c .before .before .before .before .t .given .0 .1 .0) (c .before .before .before .before .t .given .1) (c .before .before .entry-at .ensures) (c .before .chunk-of .ensures) (c .chunks-for .ensures)
+returns-2 c =
+    let p = c .before .before .before .before in let t = p .t in
+    let p = p .before .before in let the-search = p .search in
+    let start = p .before .before .before in
+    old-found (start .args .z) (start .args .img .now) (start .pre) (start .args .key .now) (the-search .result) (the-search .ensures)
+    (t .given .0 .0) (t .given .0 .1 .0) (t .given .1) (c .before .before .entry-at .ensures) (c .before .chunk-of .ensures)
+    (c .chunks-for .ensures)
 
 pub old-entry-spec : {M : Type 1} → statement M
 old-entry-spec =

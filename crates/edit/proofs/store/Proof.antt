@@ -17,81 +17,200 @@ use Rattle.placement.proofs.place.place_at.Reads as place-at-reads
 use Rattle.placement.proofs.runs.first_run.Reads as first-run-reads
 use Rattle.xxh64.proofs.xxh64.Reads as xxh64-reads
 
--- src/lib.rt:66:9
 chunks-for-requires : tie.Need-chunks-for-requires
 chunks-for-requires c κs = search needs
 
--- src/lib.rt:67:56
 xxh64-requires : tie.Need-xxh64-requires
 xxh64-requires c κs = search needs
 
--- src/lib.rt:67:9
 segment-of-hash-requires : tie.Need-segment-of-hash-requires
 segment-of-hash-requires c κs = search needs
 
--- src/lib.rt:68:9
 old-entry-requires : tie.Need-old-entry-requires
 old-entry-requires c κs = search needs
 
--- src/lib.rt:69:9
 first-run-requires : tie.Need-first-run-requires
-first-run-requires c κs = let s = sound-tiers (c .before .before .before .before .before .before .before .before .before .args .z) (c .before .before .before .before .before .before .before .before .before .args .img .now) (c .before .before .before .before .before .before .before .before .before .pre .0) in (sound-framed (c .before .before .before .before .before .before .before .before .before .args .z) (c .before .before .before .before .before .before .before .before .before .args .img .now) (c .before .before .before .before .before .before .before .before .before .pre .0), c .before .before .before .segment-of-hash .ensures .1, s (c .before .before .before .segment-of-hash .result) (c .before .before .before .segment-of-hash .ensures .1), some-chunks (c .before .before .before .before .before .before .before .before .before .args .z .settings) (c .before .before .before .before .before .before .before .before .before .args .key .now) (c .before .before .before .before .before .before .before .before .before .args .value .now) (c .before .before .before .before .before .before .before .before .before .pre .0 .valid) (c .before .before .before .before .before .before .before .before .before .pre .1) (c .before .before .before .before .before .before .before .before .before .pre .2) (c .before .before .before .before .before .chunks-for .result) (c .before .before .before .before .before .chunks-for .ensures), old-fits (c .before .before .before .before .before .before .before .before .before .args .z) (c .before .before .before .before .before .before .before .before .before .args .img .now) (c .before .before .before .before .before .before .before .before .before .pre .0) (c .before .before .before .before .before .before .before .before .before .args .key .now) (c .before .old-entry .result) (c .before .old-entry .ensures) .rangeEnds)
+first-run-requires c κs =
+    let p = c .before in let old-entry = p .old-entry in
+    let p = p .before .before in let segment-of-hash = p .segment-of-hash in
+    let p = p .before .before in let chunks-for = p .chunks-for in
+    let start = p .before .before .before .before in
+    let s = sound-tiers (start .args .z) (start .args .img .now) (start .pre .0) in (
+      sound-framed (start .args .z) (start .args .img .now) (start .pre .0),
+      segment-of-hash .ensures .1,
+      s (segment-of-hash .result) (segment-of-hash .ensures .1),
+      some-chunks (start .args .z .settings) (start .args .key .now) (start .args .value .now) (start .pre .0 .valid) (start .pre .1)
+          (start .pre .2) (chunks-for .result) (chunks-for .ensures),
+      old-fits (start .args .z) (start .args .img .now) (start .pre .0) (start .args .key .now) (old-entry .result)
+          (old-entry .ensures) .rangeEnds,
+    )
 
--- src/lib.rt:70:17
 enum-known-scan : tie.Need-enum-known-scan
 enum-known-scan c = search needs
 
--- src/lib.rt:71:48
 enum-told : tie.Need-enum-told
 enum-told c = search needs
 
--- src/lib.rt:71:20
 first-free-requires : tie.Need-first-free-requires
 first-free-requires c κs = search needs
 
--- src/lib.rt:73:13
 same-length : tie.Need-same-length
 same-length c = search needs
 
--- src/lib.rt:73:13
 returns : tie.Need-returns
-returns c = no-room (c .before .before .before .before .before .before .before .before .before .before .before .before .before .before .before .args .z) (c .before .before .before .before .before .before .before .before .before .before .before .before .before .before .before .args .img .now) (c .before .before .before .before .before .before .before .before .before .before .before .before .before .before .before .pre .0) (c .before .before .before .before .before .before .before .before .before .before .before .before .before .before .before .args .key .now) (c .before .before .before .before .before .before .before .before .before .before .before .before .before .before .before .args .value .now) (c .before .before .before .before .before .before .before .before .before .before .before .before .before .before .before .pre .3) (c .before .before .before .before .before .before .before .old-entry .result) (c .before .before .before .before .before .before .before .old-entry .ensures) (c .before .before .before .before .before .before .before .before .before .segment-of-hash .result) (c .before .before .before .before .before .before .before .before .before .before .before .chunks-for .result) (segment-made (c .before .before .before .before .before .before .before .before .before .before .before .before .before .before .before .args .z .settings) (c .before .before .before .before .before .before .before .before .before .before .before .before .before .before .before .args .key .now) (c .before .before .before .before .before .before .before .before .before .before .xxh64 .result) (c .before .before .before .before .before .before .before .before .before .segment-of-hash .result) (c .before .before .before .before .before .before .before .before .before .before .xxh64 .ensures) (c .before .before .before .before .before .before .before .before .before .segment-of-hash .ensures .0)) (c .before .before .before .before .before .before .before .before .before .before .before .chunks-for .ensures) (c .before .before .before .before .before .first-run .result) (c .before .before .before .before .before .first-run .ensures) (c .before .first-free .result) (c .before .before .before .enum-told .given .1) (c .before .first-free .ensures) (c .if1 .taken)
+returns c =
+    let p = c .before in let first-free = p .first-free in
+    let p = p .before .before in let enum-told = p .enum-told in
+    let p = p .before .before in let first-run = p .first-run in
+    let p = p .before .before in let old-entry = p .old-entry in
+    let p = p .before .before in let segment-of-hash = p .segment-of-hash in
+    let p = p .before in let xxh64 = p .xxh64 in
+    let p = p .before in let chunks-for = p .chunks-for in
+    let start = p .before .before .before .before in
+    no-room (start .args .z) (start .args .img .now) (start .pre .0) (start .args .key .now) (start .args .value .now) (start .pre .3)
+    (old-entry .result) (old-entry .ensures) (segment-of-hash .result) (chunks-for .result)
+    (segment-made (start .args .z .settings) (start .args .key .now) (xxh64 .result) (segment-of-hash .result) (xxh64 .ensures)
+    (segment-of-hash .ensures .0))
+    (chunks-for .ensures) (first-run .result) (first-run .ensures) (first-free .result) (enum-told .given .1) (first-free .ensures)
+    (c .if1 .taken)
 
--- src/lib.rt:75:9
 take-out-requires : tie.Need-take-out-requires
-take-out-requires c κs = ((sound-framed (c .before .before .before .before .before .before .before .before .before .before .before .before .before .before .before .before .args .z) (c .before .before .before .before .before .before .before .before .before .before .before .before .before .before .before .before .args .img .now) (c .before .before .before .before .before .before .before .before .before .before .before .before .before .before .before .before .pre .0)), old-fits (c .before .before .before .before .before .before .before .before .before .before .before .before .before .before .before .before .args .z) (c .before .before .before .before .before .before .before .before .before .before .before .before .before .before .before .before .args .img .now) (c .before .before .before .before .before .before .before .before .before .before .before .before .before .before .before .before .pre .0) (c .before .before .before .before .before .before .before .before .before .before .before .before .before .before .before .before .args .key .now) (c .before .before .before .before .before .before .before .before .old-entry .result) (c .before .before .before .before .before .before .before .before .old-entry .ensures))
+take-out-requires c κs =
+    let p = c .before .before .before .before .before .before .before .before in let old-entry = p .old-entry in
+    let start = p .before .before .before .before .before .before .before .before in (
+      (sound-framed (start .args .z) (start .args .img .now) (start .pre .0)),
+      old-fits (start .args .z) (start .args .img .now)
+          (start .pre .0) (start .args .key .now) (old-entry .result) (old-entry .ensures),
+    )
 
--- src/lib.rt:76:9
 join-requires : tie.Need-join-requires
-join-requires c κs = let j = free-joins (c .before .before .before .before .before .before .before .before .before .before .before .before .before .before .before .before .before .before .before .before .args .z) (c .before .before .before .before .before .before .before .before .before .before .before .before .before .before .before .before .before .before .before .before .args .img .now) (c .before .before .before .before .before .before .before .before .before .before .before .before .before .before .before .before .before .before .before .before .pre .0) (c .before .before .before .before .before .before .before .before .before .before .before .before .before .before .before .before .before .before .before .before .args .key .now) (c .before .before .before .before .before .before .before .before .before .before .before .before .before .before .before .before .before .before .before .before .args .value .now) (c .before .before .before .before .before .before .before .before .before .before .before .before .before .before .before .before .before .before .before .before .pre .3) (c .before .before .before .before .before .before .before .before .before .before .before .before .old-entry .result) (c .before .before .before .before .before .before .before .before .before .before .before .before .old-entry .ensures) (c .before .before .before .before .before .before .before .before .before .before .before .before .before .before .segment-of-hash .result) (c .before .before .before .before .before .before .before .before .before .before .before .before .before .before .before .before .chunks-for .result) (segment-made (c .before .before .before .before .before .before .before .before .before .before .before .before .before .before .before .before .before .before .before .before .args .z .settings) (c .before .before .before .before .before .before .before .before .before .before .before .before .before .before .before .before .before .before .before .before .args .key .now) (c .before .before .before .before .before .before .before .before .before .before .before .before .before .before .before .xxh64 .result) (c .before .before .before .before .before .before .before .before .before .before .before .before .before .before .segment-of-hash .result) (c .before .before .before .before .before .before .before .before .before .before .before .before .before .before .before .xxh64 .ensures) (c .before .before .before .before .before .before .before .before .before .before .before .before .before .before .segment-of-hash .ensures .0)) (c .before .before .before .before .before .before .before .before .before .before .before .before .before .before .before .before .chunks-for .ensures) (c .before .before .before .before .before .before .before .before .before .before .first-run .result) (c .before .before .before .before .before .before .before .before .before .before .first-run .ensures) (c .before .before .before .take-out .ensures) (c .before .before .before .before .before .before .first-free .result) (c .before .before .before .before .before .before .before .before .enum-told .given .1) (c .before .before .before .before .before .before .first-free .ensures) (c .before .before .before .before .before .if1 .left) in (framed-again (c .before .before .before .take-out .kept .1 .0) (sound-framed (c .before .before .before .before .before .before .before .before .before .before .before .before .before .before .before .before .before .before .before .before .args .z) (c .before .before .before .before .before .before .before .before .before .before .before .before .before .before .before .before .before .before .before .before .args .img .now) (c .before .before .before .before .before .before .before .before .before .before .before .before .before .before .before .before .before .before .before .before .pre .0)), c .before .before .before .before .before .before .before .before .before .before .before .before .before .before .segment-of-hash .ensures .1, j .0, j .1, j .2)
+join-requires c κs =
+    let p = c .before .before .before in let take-out = p .take-out in
+    let p = p .before .before in let if1 = p .if1 in
+    let p = p .before in let first-free = p .first-free in
+    let p = p .before .before in let enum-told = p .enum-told in
+    let p = p .before .before in let first-run = p .first-run in
+    let p = p .before .before in let old-entry = p .old-entry in
+    let p = p .before .before in let segment-of-hash = p .segment-of-hash in
+    let p = p .before in let xxh64 = p .xxh64 in
+    let p = p .before in let chunks-for = p .chunks-for in
+    let start = p .before .before .before .before in
+    let j =
+    free-joins (start .args .z) (start .args .img .now) (start .pre .0) (start .args .key .now) (start .args .value .now)
+    (start .pre .3) (old-entry .result) (old-entry .ensures) (segment-of-hash .result) (chunks-for .result)
+    (segment-made (start .args .z .settings) (start .args .key .now) (xxh64 .result) (segment-of-hash .result) (xxh64 .ensures)
+    (segment-of-hash .ensures .0)) (chunks-for .ensures) (first-run .result) (first-run .ensures) (take-out .ensures)
+    (first-free .result) (enum-told .given .1) (first-free .ensures) (if1 .left) in (
+      framed-again (take-out .kept .1 .0) (sound-framed (start .args .z) (start .args .img .now) (start .pre .0)),
+      segment-of-hash .ensures .1,
+      j .0,
+      j .1,
+      j .2,
+    )
 
--- src/lib.rt:77:9
 place-at-requires : tie.Need-place-at-requires
-place-at-requires c κs = (framed-again (c .before .before .before .join .kept .1 .0 ∙ c .before .before .before .before .before .before .before .take-out .kept .1 .0) (sound-framed (c .before .before .before .before .before .before .before .before .before .before .before .before .before .before .before .before .before .before .before .before .before .before .before .before .args .z) (c .before .before .before .before .before .before .before .before .before .before .before .before .before .before .before .before .before .before .before .before .before .before .before .before .args .img .now) (c .before .before .before .before .before .before .before .before .before .before .before .before .before .before .before .before .before .before .before .before .before .before .before .before .pre .0)), free-tier (c .before .before .before .before .before .before .before .before .before .before .before .before .before .before .before .before .before .before .before .before .before .before .before .before .args .z) (c .before .before .before .before .before .before .before .before .before .before .before .before .before .before .before .before .before .before .before .before .before .before .before .before .args .img .now) (c .before .before .before .before .before .before .before .before .before .before .before .before .before .before .before .before .before .before .before .before .before .before .before .before .pre .0) (c .before .before .before .before .before .before .before .before .before .before .before .before .before .before .before .before .before .before .before .before .before .before .before .before .args .key .now) (c .before .before .before .before .before .before .before .before .before .before .before .before .before .before .before .before .before .before .before .before .before .before .before .before .args .value .now) (c .before .before .before .before .before .before .before .before .before .before .before .before .before .before .before .before .before .before .before .before .before .before .before .before .pre .3) (c .before .before .before .before .before .before .before .before .before .before .before .before .before .before .before .before .old-entry .result) (c .before .before .before .before .before .before .before .before .before .before .before .before .before .before .before .before .old-entry .ensures) (c .before .before .before .before .before .before .before .before .before .before .before .before .before .before .before .before .before .before .segment-of-hash .result) (c .before .before .before .before .before .before .before .before .before .before .before .before .before .before .before .before .before .before .before .before .chunks-for .result) (segment-made (c .before .before .before .before .before .before .before .before .before .before .before .before .before .before .before .before .before .before .before .before .before .before .before .before .args .z .settings) (c .before .before .before .before .before .before .before .before .before .before .before .before .before .before .before .before .before .before .before .before .before .before .before .before .args .key .now) (c .before .before .before .before .before .before .before .before .before .before .before .before .before .before .before .before .before .before .before .xxh64 .result) (c .before .before .before .before .before .before .before .before .before .before .before .before .before .before .before .before .before .before .segment-of-hash .result) (c .before .before .before .before .before .before .before .before .before .before .before .before .before .before .before .before .before .before .before .xxh64 .ensures) (c .before .before .before .before .before .before .before .before .before .before .before .before .before .before .before .before .before .before .segment-of-hash .ensures .0)) (c .before .before .before .before .before .before .before .before .before .before .before .before .before .before .before .before .before .before .before .before .chunks-for .ensures) (c .before .before .before .before .before .before .before .before .before .before .before .before .before .before .first-run .result) (c .before .before .before .before .before .before .before .before .before .before .before .before .before .before .first-run .ensures) (c .before .before .before .before .before .before .before .take-out .ensures) (c .before .before .before .before .before .before .before .before .before .before .first-free .result) (c .before .before .before .before .before .before .before .before .before .before .before .before .enum-told .given .1) (c .before .before .before .before .before .before .before .before .before .before .first-free .ensures) (c .before .before .before .before .before .before .before .before .before .if1 .left), c .before .before .before .before .before .before .before .before .before .before .before .before .before .before .before .before .before .before .before .before .before .before .before .before .pre .1 .1, c .before .before .before .before .before .before .before .before .before .before .before .before .before .before .before .before .before .before .before .before .before .before .before .before .pre .2, free-fits (c .before .before .before .before .before .before .before .before .before .before .before .before .before .before .before .before .before .before .before .before .before .before .before .before .args .z) (c .before .before .before .before .before .before .before .before .before .before .before .before .before .before .before .before .before .before .before .before .before .before .before .before .args .img .now) (c .before .before .before .before .before .before .before .before .before .before .before .before .before .before .before .before .before .before .before .before .before .before .before .before .pre .0) (c .before .before .before .before .before .before .before .before .before .before .before .before .before .before .before .before .before .before .before .before .before .before .before .before .args .key .now) (c .before .before .before .before .before .before .before .before .before .before .before .before .before .before .before .before .before .before .before .before .before .before .before .before .args .value .now) (c .before .before .before .before .before .before .before .before .before .before .before .before .before .before .before .before .before .before .before .before .before .before .before .before .pre .3) (c .before .before .before .before .before .before .before .before .before .before .before .before .before .before .before .before .old-entry .result) (c .before .before .before .before .before .before .before .before .before .before .before .before .before .before .before .before .old-entry .ensures) (c .before .before .before .before .before .before .before .before .before .before .before .before .before .before .before .before .before .before .segment-of-hash .result) (c .before .before .before .before .before .before .before .before .before .before .before .before .before .before .before .before .before .before .before .before .chunks-for .result) (segment-made (c .before .before .before .before .before .before .before .before .before .before .before .before .before .before .before .before .before .before .before .before .before .before .before .before .args .z .settings) (c .before .before .before .before .before .before .before .before .before .before .before .before .before .before .before .before .before .before .before .before .before .before .before .before .args .key .now) (c .before .before .before .before .before .before .before .before .before .before .before .before .before .before .before .before .before .before .before .xxh64 .result) (c .before .before .before .before .before .before .before .before .before .before .before .before .before .before .before .before .before .before .segment-of-hash .result) (c .before .before .before .before .before .before .before .before .before .before .before .before .before .before .before .before .before .before .before .xxh64 .ensures) (c .before .before .before .before .before .before .before .before .before .before .before .before .before .before .before .before .before .before .segment-of-hash .ensures .0)) (c .before .before .before .before .before .before .before .before .before .before .before .before .before .before .before .before .before .before .before .before .chunks-for .ensures) (c .before .before .before .before .before .before .before .before .before .before .before .before .before .before .first-run .result) (c .before .before .before .before .before .before .before .before .before .before .before .before .before .before .first-run .ensures) (c .before .before .before .before .before .before .before .take-out .ensures) (c .before .before .before .before .before .before .before .before .before .before .first-free .result) (c .before .before .before .before .before .before .before .before .before .before .before .before .enum-told .given .1) (c .before .before .before .before .before .before .before .before .before .before .first-free .ensures) (c .before .before .before .before .before .before .before .before .before .if1 .left))
+place-at-requires c κs =
+    let p = c .before .before .before in let join = p .join in
+    let p = p .before .before .before .before in let take-out = p .take-out in
+    let p = p .before .before in let if1 = p .if1 in
+    let p = p .before in let first-free = p .first-free in
+    let p = p .before .before in let enum-told = p .enum-told in
+    let p = p .before .before in let first-run = p .first-run in
+    let p = p .before .before in let old-entry = p .old-entry in
+    let p = p .before .before in let segment-of-hash = p .segment-of-hash in
+    let p = p .before in let xxh64 = p .xxh64 in
+    let p = p .before in let chunks-for = p .chunks-for in
+    let start = p .before .before .before .before in (
+      framed-again (join .kept .1 .0 ∙ take-out .kept .1 .0) (sound-framed (start .args .z) (start .args .img .now) (start .pre .0)),
+      free-tier (start .args .z) (start .args .img .now) (start .pre .0) (start .args .key .now) (start .args .value .now) (start .pre .3)
+          (old-entry .result) (old-entry .ensures) (segment-of-hash .result) (chunks-for .result)
+          (segment-made (start .args .z .settings) (start .args .key .now) (xxh64 .result) (segment-of-hash .result) (xxh64 .ensures)
+          (segment-of-hash .ensures .0))
+          (chunks-for .ensures) (first-run .result) (first-run .ensures) (take-out .ensures) (first-free .result) (enum-told .given .1)
+          (first-free .ensures) (if1 .left),
+      start .pre .1 .1,
+      start .pre .2,
+      free-fits (start .args .z) (start .args .img .now) (start .pre .0)
+          (start .args .key .now) (start .args .value .now) (start .pre .3) (old-entry .result) (old-entry .ensures) (segment-of-hash .result)
+          (chunks-for .result) (segment-made (start .args .z .settings) (start .args .key .now) (xxh64 .result) (segment-of-hash .result) (xxh64 .ensures)
+          (segment-of-hash .ensures .0)) (chunks-for .ensures) (first-run .result) (first-run .ensures) (take-out .ensures) (first-free .result)
+          (enum-told .given .1) (first-free .ensures) (if1 .left),
+    )
 
--- src/lib.rt:78:9
 same-length-2 : tie.Need-same-length-2
 same-length-2 c = search needs
 
--- src/lib.rt:78:9
 returns-2 : tie.Need-returns-2
-returns-2 c = free-stored (c .before .before .before .before .before .before .before .before .before .before .before .before .before .before .before .before .before .before .before .before .before .before .before .before .before .before .before .args .z) (c .before .before .before .before .before .before .before .before .before .before .before .before .before .before .before .before .before .before .before .before .before .before .before .before .before .before .before .args .img .now) (c .before .before .before .before .before .before .before .before .before .before .before .before .before .before .before .before .before .before .before .before .before .before .before .before .before .before .before .pre .0) (c .before .before .before .before .before .before .before .before .before .before .before .before .before .before .before .before .before .before .before .before .before .before .before .before .before .before .before .args .key .now) (c .before .before .before .before .before .before .before .before .before .before .before .before .before .before .before .before .before .before .before .before .before .before .before .before .before .before .before .args .value .now) (c .before .before .before .before .before .before .before .before .before .before .before .before .before .before .before .before .before .before .before .before .before .before .before .before .before .before .before .pre .3) (c .before .before .before .before .before .before .before .before .before .before .before .before .before .before .before .before .before .before .before .old-entry .result) (c .before .before .before .before .before .before .before .before .before .before .before .before .before .before .before .before .before .before .before .old-entry .ensures) (c .before .before .before .before .before .before .before .before .before .before .before .before .before .before .before .before .before .before .before .before .before .segment-of-hash .result) (c .before .before .before .before .before .before .before .before .before .before .before .before .before .before .before .before .before .before .before .before .before .before .before .chunks-for .result) (segment-made (c .before .before .before .before .before .before .before .before .before .before .before .before .before .before .before .before .before .before .before .before .before .before .before .before .before .before .before .args .z .settings) (c .before .before .before .before .before .before .before .before .before .before .before .before .before .before .before .before .before .before .before .before .before .before .before .before .before .before .before .args .key .now) (c .before .before .before .before .before .before .before .before .before .before .before .before .before .before .before .before .before .before .before .before .before .before .xxh64 .result) (c .before .before .before .before .before .before .before .before .before .before .before .before .before .before .before .before .before .before .before .before .before .segment-of-hash .result) (c .before .before .before .before .before .before .before .before .before .before .before .before .before .before .before .before .before .before .before .before .before .before .xxh64 .ensures) (c .before .before .before .before .before .before .before .before .before .before .before .before .before .before .before .before .before .before .before .before .before .segment-of-hash .ensures .0)) (c .before .before .before .before .before .before .before .before .before .before .before .before .before .before .before .before .before .before .before .before .before .before .before .chunks-for .ensures) (c .before .before .before .before .before .before .before .before .before .before .before .before .before .before .before .before .before .first-run .result) (c .before .before .before .before .before .before .before .before .before .before .before .before .before .before .before .before .before .first-run .ensures) (c .before .before .before .before .before .before .before .before .before .before .take-out .ensures) (c .before .before .before .before .before .before .before .before .before .before .before .before .before .first-free .result) (c .before .before .before .before .before .before .before .before .before .before .before .before .before .before .before .enum-told .given .1) (c .before .before .before .before .before .before .before .before .before .before .before .before .before .first-free .ensures) (c .before .before .before .before .before .before .before .before .before .before .before .before .if1 .left) (c .before .before .before .before .before .before .join .ensures) (c .before .before .place-at .ensures)
+returns-2 c =
+    let p = c .before .before .before .before .before .before in let join = p .join in
+    let p = p .before .before .before .before in let take-out = p .take-out in
+    let p = p .before .before in let if1 = p .if1 in
+    let p = p .before in let first-free = p .first-free in
+    let p = p .before .before in let enum-told = p .enum-told in
+    let p = p .before .before in let first-run = p .first-run in
+    let p = p .before .before in let old-entry = p .old-entry in
+    let p = p .before .before in let segment-of-hash = p .segment-of-hash in
+    let p = p .before in let xxh64 = p .xxh64 in
+    let p = p .before in let chunks-for = p .chunks-for in
+    let start = p .before .before .before .before in
+    free-stored (start .args .z) (start .args .img .now) (start .pre .0) (start .args .key .now) (start .args .value .now) (start .pre .3)
+    (old-entry .result) (old-entry .ensures) (segment-of-hash .result) (chunks-for .result)
+    (segment-made (start .args .z .settings) (start .args .key .now) (xxh64 .result) (segment-of-hash .result) (xxh64 .ensures)
+    (segment-of-hash .ensures .0))
+    (chunks-for .ensures) (first-run .result) (first-run .ensures) (take-out .ensures) (first-free .result) (enum-told .given .1)
+    (first-free .ensures) (if1 .left) (join .ensures) (c .before .before .place-at .ensures)
 
--- src/lib.rt:80:5
 take-out-requires-2 : tie.Need-take-out-requires-2
-take-out-requires-2 c κs = ((sound-framed (c .before .before .before .before .before .before .before .before .before .before .before .before .before .before .args .z) (c .before .before .before .before .before .before .before .before .before .before .before .before .before .before .args .img .now) (c .before .before .before .before .before .before .before .before .before .before .before .before .before .before .pre .0)), old-fits (c .before .before .before .before .before .before .before .before .before .before .before .before .before .before .args .z) (c .before .before .before .before .before .before .before .before .before .before .before .before .before .before .args .img .now) (c .before .before .before .before .before .before .before .before .before .before .before .before .before .before .pre .0) (c .before .before .before .before .before .before .before .before .before .before .before .before .before .before .args .key .now) (c .before .before .before .before .before .before .old-entry .result) (c .before .before .before .before .before .before .old-entry .ensures))
+take-out-requires-2 c κs =
+    let p = c .before .before .before .before .before .before in let old-entry = p .old-entry in
+    let start = p .before .before .before .before .before .before .before .before in (
+      (sound-framed (start .args .z) (start .args .img .now) (start .pre .0)),
+      old-fits (start .args .z) (start .args .img .now)
+          (start .pre .0) (start .args .key .now) (old-entry .result) (old-entry .ensures),
+    )
 
--- src/lib.rt:81:5
 place-at-requires-2 : tie.Need-place-at-requires-2
-place-at-requires-2 c κs = let f = run-fits (c .before .before .before .before .before .before .before .before .before .before .before .before .before .before .before .before .before .before .args .z) (c .before .before .before .before .before .before .before .before .before .before .before .before .before .before .before .before .before .before .args .img .now) (c .before .before .before .before .before .before .before .before .before .before .before .before .before .before .before .before .before .before .pre .0) (c .before .before .before .before .before .before .before .before .before .before .before .before .before .before .before .before .before .before .args .key .now) (c .before .before .before .before .before .before .before .before .before .before .before .before .before .before .before .before .before .before .args .value .now) (c .before .before .before .before .before .before .before .before .before .before .before .before .before .before .before .before .before .before .pre .3) (c .before .before .before .before .before .before .before .before .before .before .old-entry .result) (c .before .before .before .before .before .before .before .before .before .before .old-entry .ensures) (c .before .before .before .before .before .before .before .before .before .before .before .before .segment-of-hash .result) (c .before .before .before .before .before .before .before .before .before .before .before .before .before .before .chunks-for .result) (segment-made (c .before .before .before .before .before .before .before .before .before .before .before .before .before .before .before .before .before .before .args .z .settings) (c .before .before .before .before .before .before .before .before .before .before .before .before .before .before .before .before .before .before .args .key .now) (c .before .before .before .before .before .before .before .before .before .before .before .before .before .xxh64 .result) (c .before .before .before .before .before .before .before .before .before .before .before .before .segment-of-hash .result) (c .before .before .before .before .before .before .before .before .before .before .before .before .before .xxh64 .ensures) (c .before .before .before .before .before .before .before .before .before .before .before .before .segment-of-hash .ensures .0)) (c .before .before .before .before .before .before .before .before .before .before .before .before .before .before .chunks-for .ensures) (c .before .before .before .before .before .before .before .before .first-run .result) (c .before .before .before .before .before .before .before .before .first-run .ensures) (c .before .before .before .take-out2 .ensures) (c .before .before .before .before .before .before .scan .given .0 .0) (c .before .before .before .before .before .before .scan .given .0 .1 .0) (c .before .before .before .before .before .before .scan .given .1) in (framed-again (c .before .before .before .take-out2 .kept .1 .0) (sound-framed (c .before .before .before .before .before .before .before .before .before .before .before .before .before .before .before .before .before .before .args .z) (c .before .before .before .before .before .before .before .before .before .before .before .before .before .before .before .before .before .before .args .img .now) (c .before .before .before .before .before .before .before .before .before .before .before .before .before .before .before .before .before .before .pre .0)), f .0, c .before .before .before .before .before .before .before .before .before .before .before .before .before .before .before .before .before .before .pre .1 .1, c .before .before .before .before .before .before .before .before .before .before .before .before .before .before .before .before .before .before .pre .2, f .1)
+place-at-requires-2 c κs =
+    let p = c .before .before .before in let take-out2 = p .take-out2 in
+    let p = p .before .before .before in let scan = p .scan in
+    let p = p .before .before in let first-run = p .first-run in
+    let p = p .before .before in let old-entry = p .old-entry in
+    let p = p .before .before in let segment-of-hash = p .segment-of-hash in
+    let p = p .before in let xxh64 = p .xxh64 in
+    let p = p .before in let chunks-for = p .chunks-for in
+    let start = p .before .before .before .before in
+    let f =
+    run-fits (start .args .z) (start .args .img .now) (start .pre .0) (start .args .key .now) (start .args .value .now) (start .pre .3)
+    (old-entry .result) (old-entry .ensures) (segment-of-hash .result) (chunks-for .result)
+    (segment-made (start .args .z .settings) (start .args .key .now) (xxh64 .result) (segment-of-hash .result) (xxh64 .ensures)
+    (segment-of-hash .ensures .0)) (chunks-for .ensures) (first-run .result) (first-run .ensures) (take-out2 .ensures)
+    (scan .given .0 .0) (scan .given .0 .1 .0) (scan .given .1) in (
+      framed-again (take-out2 .kept .1 .0) (sound-framed (start .args .z) (start .args .img .now) (start .pre .0)),
+      f .0,
+      start .pre .1 .1,
+      start .pre .2,
+      f .1,
+    )
 
--- src/lib.rt:62:1
 same-length-3 : tie.Need-same-length-3
 same-length-3 c = search needs
 
--- src/lib.rt:62:1
 returns-3 : tie.Need-returns-3
-returns-3 c = run-stored (c .before .before .before .before .before .before .before .before .before .before .before .before .before .before .before .before .before .before .before .before .before .args .z) (c .before .before .before .before .before .before .before .before .before .before .before .before .before .before .before .before .before .before .before .before .before .args .img .now) (c .before .before .before .before .before .before .before .before .before .before .before .before .before .before .before .before .before .before .before .before .before .pre .0) (c .before .before .before .before .before .before .before .before .before .before .before .before .before .before .before .before .before .before .before .before .before .args .key .now) (c .before .before .before .before .before .before .before .before .before .before .before .before .before .before .before .before .before .before .before .before .before .args .value .now) (c .before .before .before .before .before .before .before .before .before .before .before .before .before .before .before .before .before .before .before .before .before .pre .3) (c .before .before .before .before .before .before .before .before .before .before .before .before .before .old-entry .result) (c .before .before .before .before .before .before .before .before .before .before .before .before .before .old-entry .ensures) (c .before .before .before .before .before .before .before .before .before .before .before .before .before .before .before .segment-of-hash .result) (c .before .before .before .before .before .before .before .before .before .before .before .before .before .before .before .before .before .chunks-for .result) (segment-made (c .before .before .before .before .before .before .before .before .before .before .before .before .before .before .before .before .before .before .before .before .before .args .z .settings) (c .before .before .before .before .before .before .before .before .before .before .before .before .before .before .before .before .before .before .before .before .before .args .key .now) (c .before .before .before .before .before .before .before .before .before .before .before .before .before .before .before .before .xxh64 .result) (c .before .before .before .before .before .before .before .before .before .before .before .before .before .before .before .segment-of-hash .result) (c .before .before .before .before .before .before .before .before .before .before .before .before .before .before .before .before .xxh64 .ensures) (c .before .before .before .before .before .before .before .before .before .before .before .before .before .before .before .segment-of-hash .ensures .0)) (c .before .before .before .before .before .before .before .before .before .before .before .before .before .before .before .before .before .chunks-for .ensures) (c .before .before .before .before .before .before .before .before .before .before .before .first-run .result) (c .before .before .before .before .before .before .before .before .before .before .before .first-run .ensures) (c .before .before .before .before .before .before .take-out2 .ensures) (c .before .before .before .before .before .before .before .before .before .scan .given .0 .0) (c .before .before .before .before .before .before .before .before .before .scan .given .0 .1 .0) (c .before .before .before .before .before .before .before .before .before .scan .given .1) (c .before .before .place-at2 .ensures)
+returns-3 c =
+    let p = c .before .before .before .before .before .before in let take-out2 = p .take-out2 in
+    let p = p .before .before .before in let scan = p .scan in
+    let p = p .before .before in let first-run = p .first-run in
+    let p = p .before .before in let old-entry = p .old-entry in
+    let p = p .before .before in let segment-of-hash = p .segment-of-hash in
+    let p = p .before in let xxh64 = p .xxh64 in
+    let p = p .before in let chunks-for = p .chunks-for in
+    let start = p .before .before .before .before in
+    run-stored (start .args .z) (start .args .img .now) (start .pre .0) (start .args .key .now) (start .args .value .now) (start .pre .3)
+    (old-entry .result) (old-entry .ensures) (segment-of-hash .result) (chunks-for .result)
+    (segment-made (start .args .z .settings) (start .args .key .now) (xxh64 .result) (segment-of-hash .result) (xxh64 .ensures)
+    (segment-of-hash .ensures .0))
+    (chunks-for .ensures) (first-run .result) (first-run .ensures) (take-out2 .ensures) (scan .given .0 .0) (scan .given .0 .1 .0)
+    (scan .given .1) (c .before .before .place-at2 .ensures)
 
 pub store-spec : {M : Type 1} → statement M
 store-spec =

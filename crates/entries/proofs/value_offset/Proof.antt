@@ -15,11 +15,15 @@ size-requires-2 : tie.Need-size-requires-2
 size-requires-2 c κs = search needs
 
 add-result-2 : tie.Need-add-result-2
-add-result-2 c = omega (arith, encode-size (c .before .before .args .k) (search needs), encode-size (c .before .before .args .v) (search needs))
+add-result-2 c =
+    let start = c .before .before in
+    omega (arith, encode-size (start .args .k) (search needs), encode-size (start .args .v) (search needs))
 
 returns : tie.Need-returns
 unfolding valueOffset
-returns c = omega (arith, encode-size (c .before .before .args .k) (search needs), encode-size (c .before .before .args .v) (search needs))
+returns c =
+    let start = c .before .before in
+    omega (arith, encode-size (start .args .k) (search needs), encode-size (start .args .v) (search needs))
 
 pub value-offset-spec : {M : Type 1} → statement M
 value-offset-spec =

@@ -7,27 +7,26 @@ use Rattle.image.proofs.check.Reads as reads
 use Rattle.image.proofs.check.Lts as lts
 use Rattle.image.proofs.examine.Reads as examine-reads
 
--- src/lib.rt:107:11
 examine-requires : tie.Need-examine-requires
 examine-requires c κs = search needs
 
--- src/lib.rt:108:28
 enum-known-counts : tie.Need-enum-known-counts
 enum-known-counts c = search needs
 
--- src/lib.rt:111:27
 enum-known-stage : tie.Need-enum-known-stage
 enum-known-stage c = search needs
 
--- src/lib.rt:104:1
 returns : tie.Need-returns
 unfolding check verdictOf
-returns c = sym (ap verdictOf (sym (c .before .before .before .examine .ensures) ∙ c .before .counts .given .1))
+returns c =
+    let p = c .before .before .before in let examine = p .examine in
+    sym (ap verdictOf (sym (examine .ensures) ∙ c .before .counts .given .1))
 
--- src/lib.rt:104:1
 returns-2 : tie.Need-returns-2
 unfolding check verdictOf
-returns-2 c = sym (ap verdictOf (sym (c .before .before .before .examine .ensures) ∙ c .before .stage .given .1))
+returns-2 c =
+    let p = c .before .before .before in let examine = p .examine in
+    sym (ap verdictOf (sym (examine .ensures) ∙ c .before .stage .given .1))
 
 pub check-spec : {M : Type 1} → statement M
 check-spec =

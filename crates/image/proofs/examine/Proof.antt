@@ -9,40 +9,43 @@ use Rattle.image.proofs.examine.Lts as lts
 use Rattle.image.proofs.examine_image.Reads as examine-image-reads
 use Rattle.settings.proofs.parse.Reads as parse-reads
 
--- src/lib.rt:97:11
 parse-requires : tie.Need-parse-requires
 parse-requires c κs = search needs
 
--- src/lib.rt:98:47
 enum-told : tie.Need-enum-told
 enum-told c = search needs
 
--- src/lib.rt:99:47
 enum-told-2 : tie.Need-enum-told-2
 enum-told-2 c = search needs
 
--- src/lib.rt:100:26
 enum-known-st : tie.Need-enum-known-st
 enum-known-st c = search needs
 
--- src/lib.rt:100:33
 examine-image-requires : tie.Need-examine-image-requires
-examine-image-requires c κs = parse-only (c .before .before .before .before .before .before .args .block .now) (c .before .st .given .0 .0) (sym (c .before .before .before .parse .ensures) ∙ c .before .st .given .1) .valid
+examine-image-requires c κs =
+    let p = c .before in let st = p .st in
+    let p = p .before .before in let parse = p .parse in
+    let start = p .before .before .before in
+    parse-only (start .args .block .now) (st .given .0 .0) (sym (parse .ensures) ∙ st .given .1) .valid
 
--- src/lib.rt:94:1
 returns : tie.Need-returns
 unfolding examine afterBlock
-returns c = sym (ap (afterBlock (c .before .before .before .before .before .args .img .now)) (sym (c .before .before .parse .ensures) ∙ c .enum-told .given .1))
+returns c =
+    let start = c .before .before .before .before .before in
+    sym (ap (afterBlock (start .args .img .now)) (sym (c .before .before .parse .ensures) ∙ c .enum-told .given .1))
 
--- src/lib.rt:94:1
 returns-2 : tie.Need-returns-2
 unfolding examine afterBlock
-returns-2 c = sym (ap (afterBlock (c .before .before .before .before .before .args .img .now)) (sym (c .before .before .parse .ensures) ∙ c .enum-told2 .given .1))
+returns-2 c =
+    let start = c .before .before .before .before .before in
+    sym (ap (afterBlock (start .args .img .now)) (sym (c .before .before .parse .ensures) ∙ c .enum-told2 .given .1))
 
--- src/lib.rt:94:1
 returns-3 : tie.Need-returns-3
 unfolding examine afterBlock
-returns-3 c = c .examine-image .ensures ∙ sym (ap (afterBlock (c .before .before .before .before .before .before .before .args .img .now)) (sym (c .before .before .before .before .parse .ensures) ∙ c .before .before .st .given .1))
+returns-3 c =
+    let p = c .before .before .before .before in let parse = p .parse in
+    let start = p .before .before .before in
+    c .examine-image .ensures ∙ sym (ap (afterBlock (start .args .img .now)) (sym (parse .ensures) ∙ c .before .before .st .given .1))
 
 pub examine-spec : {M : Type 1} → statement M
 examine-spec =

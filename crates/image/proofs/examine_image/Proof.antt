@@ -10,65 +10,102 @@ use Rattle.chains.proofs.chains_of.Reads as chains-of-reads
 use Rattle.contents.proofs.contents_of.Reads as contents-of-reads
 use Rattle.layout.proofs.frame_of.Reads as frame-of-reads
 
--- src/lib.rt:71:26
 frame-of-requires : tie.Need-frame-of-requires
 frame-of-requires c κs = search needs
 
--- src/lib.rt:71:21
 enum-known-z : tie.Need-enum-known-z
 enum-known-z c = search needs
 
--- src/lib.rt:72:34
 enum-told : tie.Need-enum-told
 enum-told c = search needs
 
--- src/lib.rt:72:9
 returns : tie.Need-returns
-returns c = frame-refused (c .before .before .before .before .args .st) (c .before .before .before .before .args .img .now) (sym (c .before .before .frame-of .ensures) ∙ c .enum-told .given .1)
+returns c =
+    let start = c .before .before .before .before in
+    frame-refused (start .args .st) (start .args .img .now) (sym (c .before .before .frame-of .ensures) ∙ c .enum-told .given .1)
 
--- src/lib.rt:74:36
 chains-of-requires : tie.Need-chains-of-requires
-chains-of-requires c κs = framed-here (c .before .before .before .before .before .args .st) (c .before .before .before .before .before .args .img .now) (c .before .before .before .before .before .pre) (c .before .z .given .0 .0) (sym (c .before .before .before .frame-of .ensures) ∙ c .before .z .given .1)
+chains-of-requires c κs =
+    let p = c .before in let z = p .z in
+    let p = p .before .before in let frame-of = p .frame-of in
+    let start = p .before .before in
+    framed-here (start .args .st) (start .args .img .now) (start .pre) (z .given .0 .0) (sym (frame-of .ensures) ∙ z .given .1)
 
--- src/lib.rt:74:21
 enum-known-tiers : tie.Need-enum-known-tiers
 enum-known-tiers c = search needs
 
--- src/lib.rt:75:34
 enum-told-2 : tie.Need-enum-told-2
 enum-told-2 c = search needs
 
--- src/lib.rt:75:9
 returns-2 : tie.Need-returns-2
-returns-2 c = chains-refused (c .before .before .before .before .before .before .before .before .args .st) (c .before .before .before .before .before .before .before .before .args .img .now) (c .before .before .before .before .before .before .before .before .pre) (c .before .before .before .before .z .given .0 .0) (sym (c .before .before .before .before .before .before .frame-of .ensures) ∙ c .before .before .before .before .z .given .1) (sym (c .before .before .chains-of .ensures) ∙ c .enum-told2 .given .1)
+returns-2 c =
+    let p = c .before .before .before .before in let z = p .z in
+    let p = p .before .before in let frame-of = p .frame-of in
+    let start = p .before .before in
+    chains-refused (start .args .st) (start .args .img .now) (start .pre) (z .given .0 .0) (sym (frame-of .ensures) ∙ z .given .1)
+    (sym (c .before .before .chains-of .ensures) ∙ c .enum-told2 .given .1)
 
--- src/lib.rt:77:11
 contents-of-requires : tie.Need-contents-of-requires
-contents-of-requires c κs = (framed-here (c .before .before .before .before .before .before .before .before .before .args .st) (c .before .before .before .before .before .before .before .before .before .args .img .now) (c .before .before .before .before .before .before .before .before .before .pre) (c .before .before .before .before .before .z .given .0 .0) (sym (c .before .before .before .before .before .before .before .frame-of .ensures) ∙ c .before .before .before .before .before .z .given .1), tiers-here (c .before .before .before .before .before .before .before .before .before .args .st) (c .before .before .before .before .before .before .before .before .before .args .img .now) (c .before .before .before .before .before .before .before .before .before .pre) (c .before .before .before .before .before .z .given .0 .0) (sym (c .before .before .before .before .before .before .before .frame-of .ensures) ∙ c .before .before .before .before .before .z .given .1) (c .before .tiers .given .0 .0) (c .before .tiers .given .0 .1 .0) (sym (c .before .before .before .chains-of .ensures) ∙ c .before .tiers .given .1), chains-here (c .before .before .before .before .before .before .before .before .before .args .st) (c .before .before .before .before .before .before .before .before .before .args .img .now) (c .before .before .before .before .before .before .before .before .before .pre) (c .before .before .before .before .before .z .given .0 .0) (sym (c .before .before .before .before .before .before .before .frame-of .ensures) ∙ c .before .before .before .before .before .z .given .1) (c .before .tiers .given .0 .0) (c .before .tiers .given .0 .1 .0) (sym (c .before .before .before .chains-of .ensures) ∙ c .before .tiers .given .1))
+contents-of-requires c κs =
+    let p = c .before in let tiers = p .tiers in
+    let p = p .before .before in let chains-of = p .chains-of in
+    let p = p .before .before in let z = p .z in
+    let p = p .before .before in let frame-of = p .frame-of in
+    let start = p .before .before in (
+      framed-here (start .args .st) (start .args .img .now) (start .pre) (z .given .0 .0) (sym (frame-of .ensures) ∙ z .given .1),
+      tiers-here
+          (start .args .st) (start .args .img .now) (start .pre) (z .given .0 .0) (sym (frame-of .ensures) ∙ z .given .1) (tiers .given .0 .0)
+          (tiers .given .0 .1 .0) (sym (chains-of .ensures) ∙ tiers .given .1),
+      chains-here (start .args .st) (start .args .img .now) (start .pre)
+          (z .given .0 .0) (sym (frame-of .ensures) ∙ z .given .1) (tiers .given .0 .0) (tiers .given .0 .1 .0)
+          (sym (chains-of .ensures) ∙ tiers .given .1),
+    )
 
--- src/lib.rt:78:51
 enum-told-3 : tie.Need-enum-told-3
 enum-told-3 c = search needs
 
--- src/lib.rt:79:50
 enum-told-4 : tie.Need-enum-told-4
 enum-told-4 c = search needs
 
--- src/lib.rt:80:23
 enum-known-entries : tie.Need-enum-known-entries
 enum-known-entries c = search needs
 
--- src/lib.rt:67:1
 returns-3 : tie.Need-returns-3
-returns-3 c = examined (c .before .before .before .before .before .before .before .before .before .before .before .before .args .st) (c .before .before .before .before .before .before .before .before .before .before .before .before .args .img .now) (c .before .before .before .before .before .before .before .before .before .before .before .before .pre) (c .before .before .before .before .before .before .before .before .z .given .0 .0) (sym (c .before .before .before .before .before .before .before .before .before .before .frame-of .ensures) ∙ c .before .before .before .before .before .before .before .before .z .given .1) (c .before .before .before .before .tiers .given .0 .0) (c .before .before .before .before .tiers .given .0 .1 .0) (sym (c .before .before .before .before .before .before .chains-of .ensures) ∙ c .before .before .before .before .tiers .given .1) (c .before .before .contents-of .result) (c .before .before .contents-of .ensures) BadEntries (c .enum-told3 .given .1)
+returns-3 c =
+    let p = c .before .before in let contents-of = p .contents-of in
+    let p = p .before .before in let tiers = p .tiers in
+    let p = p .before .before in let chains-of = p .chains-of in
+    let p = p .before .before in let z = p .z in
+    let p = p .before .before in let frame-of = p .frame-of in
+    let start = p .before .before in
+    examined (start .args .st) (start .args .img .now) (start .pre) (z .given .0 .0) (sym (frame-of .ensures) ∙ z .given .1)
+    (tiers .given .0 .0) (tiers .given .0 .1 .0) (sym (chains-of .ensures) ∙ tiers .given .1) (contents-of .result) (contents-of .ensures)
+    BadEntries (c .enum-told3 .given .1)
 
--- src/lib.rt:67:1
 returns-4 : tie.Need-returns-4
-returns-4 c = examined (c .before .before .before .before .before .before .before .before .before .before .before .before .args .st) (c .before .before .before .before .before .before .before .before .before .before .before .before .args .img .now) (c .before .before .before .before .before .before .before .before .before .before .before .before .pre) (c .before .before .before .before .before .before .before .before .z .given .0 .0) (sym (c .before .before .before .before .before .before .before .before .before .before .frame-of .ensures) ∙ c .before .before .before .before .before .before .before .before .z .given .1) (c .before .before .before .before .tiers .given .0 .0) (c .before .before .before .before .tiers .given .0 .1 .0) (sym (c .before .before .before .before .before .before .chains-of .ensures) ∙ c .before .before .before .before .tiers .given .1) (c .before .before .contents-of .result) (c .before .before .contents-of .ensures) BadChunks (c .enum-told4 .given .1)
+returns-4 c =
+    let p = c .before .before in let contents-of = p .contents-of in
+    let p = p .before .before in let tiers = p .tiers in
+    let p = p .before .before in let chains-of = p .chains-of in
+    let p = p .before .before in let z = p .z in
+    let p = p .before .before in let frame-of = p .frame-of in
+    let start = p .before .before in
+    examined (start .args .st) (start .args .img .now) (start .pre) (z .given .0 .0) (sym (frame-of .ensures) ∙ z .given .1)
+    (tiers .given .0 .0) (tiers .given .0 .1 .0) (sym (chains-of .ensures) ∙ tiers .given .1) (contents-of .result) (contents-of .ensures)
+    BadChunks (c .enum-told4 .given .1)
 
--- src/lib.rt:67:1
 returns-5 : tie.Need-returns-5
-returns-5 c = examined (c .before .before .before .before .before .before .before .before .before .before .before .before .before .args .st) (c .before .before .before .before .before .before .before .before .before .before .before .before .before .args .img .now) (c .before .before .before .before .before .before .before .before .before .before .before .before .before .pre) (c .before .before .before .before .before .before .before .before .before .z .given .0 .0) (sym (c .before .before .before .before .before .before .before .before .before .before .before .frame-of .ensures) ∙ c .before .before .before .before .before .before .before .before .before .z .given .1) (c .before .before .before .before .before .tiers .given .0 .0) (c .before .before .before .before .before .tiers .given .0 .1 .0) (sym (c .before .before .before .before .before .before .before .chains-of .ensures) ∙ c .before .before .before .before .before .tiers .given .1) (c .before .before .before .contents-of .result) (c .before .before .before .contents-of .ensures) (Fit (c .before .entries .given .0 .0) (c .before .entries .given .0 .1 .0)) (c .before .entries .given .1)
+returns-5 c =
+    let p = c .before in let entries = p .entries in
+    let p = p .before .before in let contents-of = p .contents-of in
+    let p = p .before .before in let tiers = p .tiers in
+    let p = p .before .before in let chains-of = p .chains-of in
+    let p = p .before .before in let z = p .z in
+    let p = p .before .before in let frame-of = p .frame-of in
+    let start = p .before .before in
+    examined (start .args .st) (start .args .img .now) (start .pre) (z .given .0 .0) (sym (frame-of .ensures) ∙ z .given .1)
+    (tiers .given .0 .0) (tiers .given .0 .1 .0) (sym (chains-of .ensures) ∙ tiers .given .1) (contents-of .result) (contents-of .ensures)
+    (Fit (entries .given .0 .0) (entries .given .0 .1 .0)) (entries .given .1)
 
 pub examine-image-spec : {M : Type 1} → statement M
 examine-image-spec =

@@ -35,7 +35,10 @@ next-of-requires c κs =
     (b .pre .0, chain-tier (b .args .z) (b .args .img .now) (λ u. ℕ) (b .args .s) (c .before .before .loop .inv .along) (omega arith) (c .if1 .left))
 
 add-k : tie.Need-add-k Inv-loop μ-loop
-add-k c = omega (arith, c .before .before .before .before .tier-count .ensures, c .before .before .before .before .before .before .pre .0 .tierCount)
+add-k c =
+    let p = c .before .before .before .before in let tier-count = p .tier-count in
+    let start = p .before .before in
+    omega (arith, tier-count .ensures, start .pre .0 .tierCount)
 
 loop-less : tie.Need-loop-less Inv-loop μ-loop
 loop-less c = omega arith
@@ -43,7 +46,8 @@ loop-less c = omega arith
 loop-again : tie.Need-loop-again Inv-loop μ-loop
 loop-again c =
     let b = c .before .before .before .before .before .before in
-    walking-turns (b .args .z) (b .args .img .now) (b .args .s) (c .before .before .before .loop .inv) (omega arith) (c .before .if1 .left) (c .next-of .result) (c .next-of .ensures)
+    walking-turns (b .args .z) (b .args .img .now) (b .args .s) (c .before .before .before .loop .inv) (omega arith) (c .before .if1 .left)
+    (c .next-of .result) (c .next-of .ensures)
 
 returns-2 : tie.Need-returns-2 Inv-loop μ-loop
 returns-2 c =

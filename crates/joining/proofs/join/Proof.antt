@@ -22,8 +22,11 @@ put-next-requires : tie.Need-put-next-requires
 put-next-requires c κs =
     let e = c .before in
     let h = e .before .before .before .before .before .before in
-    let b = h .before .before .before in
-    (b .pre .0, subst (IsTier (b .args .z)) (sym (e .end-of-chain .ensures .0)) (last-tier (b .args .z) (b .args .img .now) (b .args .s) (b .pre .1) (b .pre .2)))
+    let b = h .before .before .before in (
+      b .pre .0,
+      subst (IsTier (b .args .z)) (sym (e .end-of-chain .ensures .0))
+          (last-tier (b .args .z) (b .args .img .now) (b .args .s) (b .pre .1) (b .pre .2)),
+    )
 
 put-first-free-requires : tie.Need-put-first-free-requires
 put-first-free-requires c κs = search needs
@@ -41,8 +44,11 @@ put-next-requires-2 c κs =
     let l = f .before .before .before .before in
     let e = l .before .before in
     let h = e .before .before .before .before .before .before in
-    let b = h .before .before .before in
-    (framed-put _ _ _ (framed-put _ _ _ (framed-put _ _ _ (b .pre .0) (l .put-next .ensures)) (f .put-first-free .ensures)) (u .put-used-tiers .ensures), subst (IsTier (b .args .z)) (sym (h .first-free .ensures)) (b .pre .3))
+    let b = h .before .before .before in (
+      framed-put _ _ _ (framed-put _ _ _ (framed-put _ _ _ (b .pre .0) (l .put-next .ensures)) (f .put-first-free .ensures))
+          (u .put-used-tiers .ensures),
+      subst (IsTier (b .args .z)) (sym (h .first-free .ensures)) (b .pre .3),
+    )
 
 put-previous-requires : tie.Need-put-previous-requires
 put-previous-requires c κs =
@@ -52,8 +58,11 @@ put-previous-requires c κs =
     let l = f .before .before .before .before in
     let e = l .before .before in
     let h = e .before .before .before .before .before .before in
-    let b = h .before .before .before in
-    (framed-put _ _ _ (framed-put _ _ _ (framed-put _ _ _ (framed-put _ _ _ (b .pre .0) (l .put-next .ensures)) (f .put-first-free .ensures)) (u .put-used-tiers .ensures)) (n .put-next2 .ensures), subst (IsTier (b .args .z)) (sym (h .first-free .ensures)) (b .pre .3))
+    let b = h .before .before .before in (
+      framed-put _ _ _ (framed-put _ _ _ (framed-put _ _ _ (framed-put _ _ _ (b .pre .0) (l .put-next .ensures)) (f .put-first-free .ensures))
+          (u .put-used-tiers .ensures)) (n .put-next2 .ensures),
+      subst (IsTier (b .args .z)) (sym (h .first-free .ensures)) (b .pre .3),
+    )
 
 put-segment-requires : tie.Need-put-segment-requires
 put-segment-requires c κs =
@@ -64,8 +73,12 @@ put-segment-requires c κs =
     let l = f .before .before .before .before in
     let e = l .before .before in
     let h = e .before .before .before .before .before .before in
-    let b = h .before .before .before in
-    (framed-put _ _ _ (framed-put _ _ _ (framed-put _ _ _ (framed-put _ _ _ (framed-put _ _ _ (b .pre .0) (l .put-next .ensures)) (f .put-first-free .ensures)) (u .put-used-tiers .ensures)) (n .put-next2 .ensures)) (p .put-previous .ensures), subst (IsTier (b .args .z)) (sym (h .first-free .ensures)) (b .pre .3))
+    let b = h .before .before .before in (
+      framed-put _ _ _
+          (framed-put _ _ _ (framed-put _ _ _ (framed-put _ _ _ (framed-put _ _ _ (b .pre .0) (l .put-next .ensures)) (f .put-first-free .ensures))
+          (u .put-used-tiers .ensures)) (n .put-next2 .ensures)) (p .put-previous .ensures),
+      subst (IsTier (b .args .z)) (sym (h .first-free .ensures)) (b .pre .3),
+    )
 
 put-order-requires : tie.Need-put-order-requires
 put-order-requires c κs =
@@ -77,8 +90,12 @@ put-order-requires c κs =
     let l = f .before .before .before .before in
     let e = l .before .before in
     let h = e .before .before .before .before .before .before in
-    let b = h .before .before .before in
-    (framed-put _ _ _ (framed-put _ _ _ (framed-put _ _ _ (framed-put _ _ _ (framed-put _ _ _ (framed-put _ _ _ (b .pre .0) (l .put-next .ensures)) (f .put-first-free .ensures)) (u .put-used-tiers .ensures)) (n .put-next2 .ensures)) (p .put-previous .ensures)) (g .put-segment .ensures), subst (IsTier (b .args .z)) (sym (h .first-free .ensures)) (b .pre .3))
+    let b = h .before .before .before in (
+      framed-put _ _ _ (framed-put _ _ _
+          (framed-put _ _ _ (framed-put _ _ _ (framed-put _ _ _ (framed-put _ _ _ (b .pre .0) (l .put-next .ensures)) (f .put-first-free .ensures))
+          (u .put-used-tiers .ensures)) (n .put-next2 .ensures)) (p .put-previous .ensures)) (g .put-segment .ensures),
+      subst (IsTier (b .args .z)) (sym (h .first-free .ensures)) (b .pre .3),
+    )
 
 same-length : tie.Need-same-length
 same-length c = search needs
@@ -98,8 +115,15 @@ returns c =
     let h = x .before .before in
     let b = h .before .before .before in
     joined (b .args .z) (b .args .img .now) (b .args .s)
-    (record { freeIs = h .first-free .ensures; nextIs = x .next-of .ensures; usedIs = d .used-tiers .ensures; lastIs = e .end-of-chain .ensures .0; countIs = e .end-of-chain .ensures .1 })
-    (l .put-next .ensures) (f .put-first-free .ensures) (u .put-used-tiers .ensures) (n .put-next2 .ensures) (p .put-previous .ensures) (g .put-segment .ensures) (o .put-order .ensures)
+    (record {
+      freeIs = h .first-free .ensures;
+      nextIs = x .next-of .ensures;
+      usedIs = d .used-tiers .ensures;
+      lastIs = e .end-of-chain .ensures .0;
+      countIs = e .end-of-chain .ensures .1;
+    })
+    (l .put-next .ensures) (f .put-first-free .ensures) (u .put-used-tiers .ensures) (n .put-next2 .ensures) (p .put-previous .ensures)
+    (g .put-segment .ensures) (o .put-order .ensures)
 
 pub join-spec : {M : Type 1} → statement M
 join-spec =

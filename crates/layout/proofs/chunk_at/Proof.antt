@@ -30,11 +30,18 @@ add-result-3 : tie.Need-add-result-3
 unfolding freeListAt at partAt
 add-result-3 c =
     let s = c .before .before .before .before in
-    omega (arith, tier-room (s .pre .0) (s .args .t) (s .pre .1), mul-le-mul-right (s .args .z .settings .chunkSize) (s .pre .2), c .before .before .before .free-list-at .ensures)
+    omega (
+      arith,
+      tier-room (s .pre .0) (s .args .t) (s .pre .1),
+      mul-le-mul-right (s .args .z .settings .chunkSize) (s .pre .2),
+      c .before .before .before .free-list-at .ensures,
+    )
 
 returns : tie.Need-returns
 unfolding chunkAt freeListAt at partAt
-returns c = omega (arith, c .before .before .before .free-list-at .ensures)
+returns c =
+    let p = c .before .before .before in let free-list-at = p .free-list-at in
+    omega (arith, free-list-at .ensures)
 
 pub chunk-at-spec : {M : Type 1} → statement M
 chunk-at-spec =

@@ -46,7 +46,9 @@ returns-5 c =
       imageLength = s .pre .1;
       headersAfter = c .before .before .before .before .before .before .before .if1 .left;
       tierCount = omega (arith, c .before .before .before .before .before .if2 .left, c .before .before .before .before .before .before .tier-count .ensures);
-      storeSizeIs = storeSize-get z img ∙ sym (c .before .before .read-le8 .ensures) ∙ c .before .if3 .left ∙ c .before .before .before .before .store-end .ensures;
+      storeSizeIs =
+          storeSize-get z img ∙ sym (c .before .before .read-le8 .ensures) ∙ c .before .if3 .left
+          ∙ c .before .before .before .before .store-end .ensures;
       storeWithin = omega (arith, c .if4 .left, c .before .before .before .before .store-end .ensures);
     }
 

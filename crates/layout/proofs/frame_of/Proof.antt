@@ -26,21 +26,27 @@ shape-of-requires c κs = search needs
 frame-fits-requires : tie.Need-frame-fits-requires
 unfolding shapeOf
 frame-fits-requires c κs =
-    let e : c .shape-of .result .settings .globalAt ≡ c .before .before .before .before .before .args .st .globalAt = ap (λ x. x .settings .globalAt) (c .shape-of .ensures .0) in
+    let start = c .before .before .before .before .before in
+    let e : c .shape-of .result .settings .globalAt ≡ start .args .st .globalAt =
+    ap (λ x. x .settings .globalAt) (c .shape-of .ensures .0) in
     (c .shape-of .ensures .1, (omega (arith, c .before .before .if1 .left), omega (arith, c .before .if2 .left)))
 
 returns-3 : tie.Need-returns-3
 returns-3 c =
-    let img = now (c .before .before .before .before .before .before .before .args .img) in
+    let p = c .before in let frame-fits2 = p .frame-fits in
+    let start = p .before .before .before .before .before .before in
+    let img = now (start .args .img) in
     let e = c .before .before .shape-of .ensures .0 in
-    let f = decided-true (c .before .frame-fits .result) (c .before .frame-fits .ensures) (c .if3 .taken) in
+    let f = decided-true (frame-fits2 .result) (frame-fits2 .ensures) (c .if3 .taken) in
     ap Fits e ∙ sym (frame-fits _ img (subst (λ x. FrameFits x img) e f))
 
 returns-4 : tie.Need-returns-4
 returns-4 c =
-    let img = now (c .before .before .before .before .before .before .before .args .img) in
+    let p = c .before in let frame-fits = p .frame-fits in
+    let start = p .before .before .before .before .before .before in
+    let img = now (start .args .img) in
     let e = c .before .before .shape-of .ensures .0 in
-    let h = decided-false (c .before .frame-fits .result) (c .before .frame-fits .ensures) (c .if3 .left) in
+    let h = decided-false (frame-fits .result) (frame-fits .ensures) (c .if3 .left) in
     sym (frame-broken _ img (λ f. h (subst (λ x. FrameFits x img) (sym e) f)))
 
 pub frame-of-spec : {M : Type 1} → statement M

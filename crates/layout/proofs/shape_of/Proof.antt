@@ -17,7 +17,9 @@ read-le-requires c κs = search needs
 
 returns : tie.Need-returns
 unfolding shapeOf
-returns c = (cc, record { valid = c .before .before .before .pre .0; headers = c .before .read-le4 .ensures .1; bulks = c .read-le .ensures .1 })
+returns c =
+    let start = c .before .before .before in
+    (cc, record { valid = start .pre .0; headers = c .before .read-le4 .ensures .1; bulks = c .read-le .ensures .1 })
 
 pub shape-of-spec : {M : Type 1} → statement M
 shape-of-spec =

@@ -37,7 +37,11 @@ add-result-3 c =
 returns : tie.Need-returns
 returns c =
     let s = c .before .before .before in
-    omega (arith, sharedAt-extra (s .args .z) (s .args .t) (s .args .in-header) (s .args .in-counters) (omega (arith, c .before .if1 .taken)), c .counters-at .ensures)
+    omega (
+      arith,
+      sharedAt-extra (s .args .z) (s .args .t) (s .args .in-header) (s .args .in-counters) (omega (arith, c .before .if1 .taken)),
+      c .counters-at .ensures,
+    )
 
 returns-2 : tie.Need-returns-2
 returns-2 c =

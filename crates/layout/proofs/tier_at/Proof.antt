@@ -20,7 +20,12 @@ mul-result c =
 add-result : tie.Need-add-result
 add-result c =
     let s = c .before .before .before .before in
-    omega (arith, tier-main (s .args .z) (s .args .t) (c .before .before .if1 .taken), tier-room (s .pre .0) (s .args .t) (s .pre .1), c .before .mains .ensures)
+    omega (
+      arith,
+      tier-main (s .args .z) (s .args .t) (c .before .before .if1 .taken),
+      tier-room (s .pre .0) (s .args .t) (s .pre .1),
+      c .before .mains .ensures,
+    )
 
 bulks-at-requires : tie.Need-bulks-at-requires
 bulks-at-requires c κs = framed-bounded (c .before .before .pre .0)
@@ -40,7 +45,13 @@ extra-at-requires c κs =
 add-result-2 : tie.Need-add-result-2
 add-result-2 c =
     let s = c .before .before .before .before .before in
-    omega (arith, tier-extra (s .args .z) (s .args .t) (c .before .before .before .if1 .left), tier-room (s .pre .0) (s .args .t) (s .pre .1), c .before .before .bulks-at .ensures, c .extra-at .ensures)
+    omega (
+      arith,
+      tier-extra (s .args .z) (s .args .t) (c .before .before .before .if1 .left),
+      tier-room (s .pre .0) (s .args .t) (s .pre .1),
+      c .before .before .bulks-at .ensures,
+      c .extra-at .ensures,
+    )
 
 returns : tie.Need-returns
 returns c =

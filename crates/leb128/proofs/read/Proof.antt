@@ -19,13 +19,17 @@ add-t10 : tie.Need-add-t10
 add-t10 c = search needs
 
 returns-2 : tie.Need-returns-2
-returns-2 c = sym (decode-1 _ _ (c .before .wide .result) (omega arith) (c .before .wide .ensures .0) (omega arith))
+returns-2 c =
+    let p = c .before in let wide = p .wide in
+    sym (decode-1 _ _ (wide .result) (omega arith) (wide .ensures .0) (omega arith))
 
 add-if3 : tie.Need-add-if3
 add-if3 c = search needs
 
 returns-3 : tie.Need-returns-3
-returns-3 c = sym (decode-end-1 _ _ (c .before .before .wide .result) (omega arith) (c .before .before .wide .ensures .0) (omega arith) (omega arith))
+returns-3 c =
+    let p = c .before .before in let wide = p .wide in
+    sym (decode-end-1 _ _ (wide .result) (omega arith) (wide .ensures .0) (omega arith) (omega arith))
 
 add-wide : tie.Need-add-wide
 add-wide c = search needs
@@ -37,7 +41,11 @@ wide-requires-2 : tie.Need-wide-requires-2
 wide-requires-2 c κs = search needs
 
 returns-4 : tie.Need-returns-4
-returns-4 c = sym (decode-2 _ _ (c .before .before .before .before .before .wide .result) (omega arith) (c .before .before .before .before .before .wide .ensures .0) (omega arith) (c .before .wide2 .result) (omega arith) (c .before .wide2 .ensures .0) (omega arith) ∙ refuse-2 _ _ _ (omega arith) (inl (omega arith)))
+returns-4 c =
+    let p = c .before in let wide2 = p .wide2 in
+    let p = p .before .before .before .before in let wide = p .wide in
+    sym (decode-2 _ _ (wide .result) (omega arith) (wide .ensures .0) (omega arith) (wide2 .result) (omega arith) (wide2 .ensures .0)
+    (omega arith) ∙ refuse-2 _ _ _ (omega arith) (inl (omega arith)))
 
 mul-t14 : tie.Need-mul-t14
 mul-t14 c = search needs
@@ -49,13 +57,21 @@ add-t16 : tie.Need-add-t16
 add-t16 c = search needs
 
 returns-5 : tie.Need-returns-5
-returns-5 c = sym (decode-2 _ _ (c .before .before .before .before .before .before .wide .result) (omega arith) (c .before .before .before .before .before .before .wide .ensures .0) (omega arith) (c .before .before .wide2 .result) (omega arith) (c .before .before .wide2 .ensures .0) (omega arith) ∙ accept-2 _ _ _ (omega arith) (omega arith) (omega arith) (omega arith))
+returns-5 c =
+    let p = c .before .before in let wide2 = p .wide2 in
+    let p = p .before .before .before .before in let wide = p .wide in
+    sym (decode-2 _ _ (wide .result) (omega arith) (wide .ensures .0) (omega arith) (wide2 .result) (omega arith) (wide2 .ensures .0)
+    (omega arith) ∙ accept-2 _ _ _ (omega arith) (omega arith) (omega arith) (omega arith))
 
 add-if6 : tie.Need-add-if6
 add-if6 c = search needs
 
 returns-6 : tie.Need-returns-6
-returns-6 c = sym (decode-end-2 _ _ (c .before .before .before .before .before .before .before .wide .result) (omega arith) (c .before .before .before .before .before .before .before .wide .ensures .0) (omega arith) (c .before .before .before .wide2 .result) (omega arith) (c .before .before .before .wide2 .ensures .0) (omega arith) (omega arith))
+returns-6 c =
+    let p = c .before .before .before in let wide2 = p .wide2 in
+    let p = p .before .before .before .before in let wide = p .wide in
+    sym (decode-end-2 _ _ (wide .result) (omega arith) (wide .ensures .0) (omega arith) (wide2 .result) (omega arith) (wide2 .ensures .0)
+    (omega arith) (omega arith))
 
 add-wide-2 : tie.Need-add-wide-2
 add-wide-2 c = search needs
@@ -67,10 +83,20 @@ wide-requires-3 : tie.Need-wide-requires-3
 wide-requires-3 c κs = search needs
 
 returns-7 : tie.Need-returns-7
-returns-7 c = sym (decode-3 _ _ (c .before .before .before .before .before .before .before .before .before .before .wide .result) (omega arith) (c .before .before .before .before .before .before .before .before .before .before .wide .ensures .0) (omega arith) (c .before .before .before .before .before .before .wide2 .result) (omega arith) (c .before .before .before .before .before .before .wide2 .ensures .0) (omega arith) (c .before .wide3 .result) (omega arith) (c .before .wide3 .ensures .0) ∙ refuse-3 _ _ _ _ (inl (omega arith)))
+returns-7 c =
+    let p = c .before in let wide3 = p .wide3 in
+    let p = p .before .before .before .before .before in let wide2 = p .wide2 in
+    let p = p .before .before .before .before in let wide = p .wide in
+    sym (decode-3 _ _ (wide .result) (omega arith) (wide .ensures .0) (omega arith) (wide2 .result) (omega arith) (wide2 .ensures .0)
+    (omega arith) (wide3 .result) (omega arith) (wide3 .ensures .0) ∙ refuse-3 _ _ _ _ (inl (omega arith)))
 
 returns-8 : tie.Need-returns-8
-returns-8 c = sym (decode-3 _ _ (c .before .before .before .before .before .before .before .before .before .before .before .wide .result) (omega arith) (c .before .before .before .before .before .before .before .before .before .before .before .wide .ensures .0) (omega arith) (c .before .before .before .before .before .before .before .wide2 .result) (omega arith) (c .before .before .before .before .before .before .before .wide2 .ensures .0) (omega arith) (c .before .before .wide3 .result) (omega arith) (c .before .before .wide3 .ensures .0) ∙ refuse-3 _ _ _ _ (inr (omega arith)))
+returns-8 c =
+    let p = c .before .before in let wide3 = p .wide3 in
+    let p = p .before .before .before .before .before in let wide2 = p .wide2 in
+    let p = p .before .before .before .before in let wide = p .wide in
+    sym (decode-3 _ _ (wide .result) (omega arith) (wide .ensures .0) (omega arith) (wide2 .result) (omega arith) (wide2 .ensures .0)
+    (omega arith) (wide3 .result) (omega arith) (wide3 .ensures .0) ∙ refuse-3 _ _ _ _ (inr (omega arith)))
 
 mul-t18 : tie.Need-mul-t18
 mul-t18 c = search needs
@@ -88,7 +114,13 @@ add-t22 : tie.Need-add-t22
 add-t22 c = search needs
 
 returns-9 : tie.Need-returns-9
-returns-9 c = sym (decode-3 _ _ (c .before .before .before .before .before .before .before .before .before .before .before .wide .result) (omega arith) (c .before .before .before .before .before .before .before .before .before .before .before .wide .ensures .0) (omega arith) (c .before .before .before .before .before .before .before .wide2 .result) (omega arith) (c .before .before .before .before .before .before .before .wide2 .ensures .0) (omega arith) (c .before .before .wide3 .result) (omega arith) (c .before .before .wide3 .ensures .0) ∙ accept-3 _ _ _ _ (omega arith) (omega arith) (omega arith) (omega arith) (omega arith) (omega arith))
+returns-9 c =
+    let p = c .before .before in let wide3 = p .wide3 in
+    let p = p .before .before .before .before .before in let wide2 = p .wide2 in
+    let p = p .before .before .before .before in let wide = p .wide in
+    sym (decode-3 _ _ (wide .result) (omega arith) (wide .ensures .0) (omega arith) (wide2 .result) (omega arith) (wide2 .ensures .0)
+    (omega arith) (wide3 .result) (omega arith) (wide3 .ensures .0) ∙ accept-3 _ _ _ _ (omega arith) (omega arith) (omega arith)
+    (omega arith) (omega arith) (omega arith))
 
 pub read-spec : {M : Type 1} → statement M
 read-spec =

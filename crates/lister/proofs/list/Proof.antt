@@ -16,7 +16,9 @@ part-img-end : tie.Need-part-img-end
 part-img-end c = search needs
 
 slice-aggregate-examine : tie.Need-slice-aggregate-examine
-slice-aggregate-examine c = sym (length-take-le 71 (c .before .before .before .args .input .now) (omega arith))
+slice-aggregate-examine c =
+    let start = c .before .before .before in
+    sym (length-take-le 71 (start .args .input .now) (omega arith))
 
 examine-requires : tie.Need-examine-requires
 examine-requires c κs = search needs

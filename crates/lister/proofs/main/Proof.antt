@@ -21,7 +21,9 @@ array-share-prefix-buf c =
     whole-there (read .ensures) (c .before .n .given .1)
 
 add-buf : tie.Need-add-buf
-add-buf c = omega (arith, array-share-prefix-buf c, c .before .before .before .before .read .kept .0)
+add-buf c =
+    let p = c .before .before .before .before in let read = p .read in
+    omega (arith, array-share-prefix-buf c, read .kept .0)
 
 slice-aggregate-list : tie.Need-slice-aggregate-list
 slice-aggregate-list c = sym (length-take-le _ _ (array-share-prefix-buf (c .before)))

@@ -8,13 +8,17 @@ is-channel-requires : tie.Need-is-channel-requires
 is-channel-requires c κs = search needs
 
 returns : tie.Need-returns
-returns c = λ f. decided-false (c .before .is-channel .result) (c .before .is-channel .ensures) (not-true _ (c .if1 .taken)) (f .0)
+returns c =
+    let p = c .before in let is-channel = p .is-channel in
+    λ f. decided-false (is-channel .result) (is-channel .ensures) (not-true _ (c .if1 .taken)) (f .0)
 
 is-channel-requires-2 : tie.Need-is-channel-requires-2
 is-channel-requires-2 c κs = search needs
 
 returns-2 : tie.Need-returns-2
-returns-2 c = λ f. decided-false (c .before .is-channel2 .result) (c .before .is-channel2 .ensures) (not-true _ (c .if2 .taken)) (f .1 .0)
+returns-2 c =
+    let p = c .before in let is-channel2 = p .is-channel2 in
+    λ f. decided-false (is-channel2 .result) (is-channel2 .ensures) (not-true _ (c .if2 .taken)) (f .1 .0)
 
 returns-3 : tie.Need-returns-3
 returns-3 c = search needs

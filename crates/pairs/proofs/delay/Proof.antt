@@ -21,18 +21,26 @@ enum-told c = search needs
 
 returns : tie.Need-returns
 returns c =
-    let s = c .before .before .before .before .before .before .before .before .args in
-    ask-refused (s .block .now) (s .img .now) (s .a) (s .b) (c .before .before .before .check .ensures) (c .before .outcome .given .0 .0) (c .before .outcome .given .1)
+    let p = c .before in let outcome = p .outcome in
+    let p = p .before .before in let check = p .check in
+    let start = p .before .before .before .before .before in
+    let s = start .args in
+    ask-refused (s .block .now) (s .img .now) (s .a) (s .b) (check .ensures) (outcome .given .0 .0) (outcome .given .1)
 
 returns-2 : tie.Need-returns-2
 returns-2 c =
-    let s = c .before .before .before .before .before .before .before .args in
-    let fit = c .before .before .before .before .channels-fit in
-    ask-misfit (s .block .now) (s .img .now) (s .a) (s .b) (c .before .before .check .ensures) (c .enum-told .given .0 .0) (c .enum-told .given .1)
-    (decided-false (fit .result) (fit .ensures) (not-true _ (c .before .before .before .if1 .taken)))
+    let p = c .before .before .before in let if1 = p .if1 in
+    let p = p .before in let channels-fit = p .channels-fit in
+    let start = p .before .before .before in
+    let s = start .args in
+    let fit = channels-fit in
+    ask-misfit (s .block .now) (s .img .now) (s .a) (s .b) (c .before .before .check .ensures) (c .enum-told .given .0 .0)
+    (c .enum-told .given .1) (decided-false (fit .result) (fit .ensures) (not-true _ (if1 .taken)))
 
 pair-key-requires : tie.Need-pair-key-requires
-pair-key-requires c κs = decided-true (c .before .channels-fit .result) (c .before .channels-fit .ensures) (not-false _ (c .if1 .left))
+pair-key-requires c κs =
+    let p = c .before in let channels-fit = p .channels-fit in
+    decided-true (channels-fit .result) (channels-fit .ensures) (not-false _ (c .if1 .left))
 
 slice-aggregate-lookup : tie.Need-slice-aggregate-lookup
 slice-aggregate-lookup c = search needs
@@ -51,9 +59,17 @@ enum-known-at c = search needs
 
 add-from-record : tie.Need-add-from-record
 add-from-record c =
-    let s = c .before .before .before .before .before .before .before .before .before .before .args in
-    let l = c .before .before .before .lookup in
-    omega (arith, record-within (s .block .now) (s .img .now) _ (l .result) (l .ensures) (λ i. omega (arith, c .before .before .before .before .before .before .before .before .shared-slice-known2 .given i)) (c .before .at .given .0 .0) (c .before .at .given .0 .1 .0) (c .before .at .given .1) .0)
+    let p = c .before in let at = p .at in
+    let p = p .before .before in let lookup = p .lookup in
+    let p = p .before .before .before .before .before in let shared-slice-known2 = p .shared-slice-known2 in
+    let start = p .before .before in
+    let s = start .args in
+    let l = lookup in
+    omega (
+      arith,
+      record-within (s .block .now) (s .img .now) _ (l .result) (l .ensures) (λ i. omega (arith, shared-slice-known2 .given i))
+          (at .given .0 .0) (at .given .0 .1 .0) (at .given .1) .0,
+    )
 
 sub-from-record : tie.Need-sub-from-record
 sub-from-record c = search needs
@@ -63,27 +79,57 @@ part-from-record-start c = search needs
 
 part-from-record-end : tie.Need-part-from-record-end
 part-from-record-end c =
-    let s = c .before .before .before .before .before .before .before .before .before .before .args in
-    let l = c .before .before .before .lookup in
-    omega (arith, record-within (s .block .now) (s .img .now) _ (l .result) (l .ensures) (λ i. omega (arith, c .before .before .before .before .before .before .before .before .shared-slice-known2 .given i)) (c .before .at .given .0 .0) (c .before .at .given .0 .1 .0) (c .before .at .given .1) .0)
+    let p = c .before in let at = p .at in
+    let p = p .before .before in let lookup = p .lookup in
+    let p = p .before .before .before .before .before in let shared-slice-known2 = p .shared-slice-known2 in
+    let start = p .before .before in
+    let s = start .args in
+    let l = lookup in
+    omega (
+      arith,
+      record-within (s .block .now) (s .img .now) _ (l .result) (l .ensures) (λ i. omega (arith, shared-slice-known2 .given i))
+          (at .given .0 .0) (at .given .0 .1 .0) (at .given .1) .0,
+    )
 
 from-record-requires : tie.Need-from-record-requires
 from-record-requires c κs = search needs
 
 returns-3 : tie.Need-returns-3
 returns-3 c =
-    let s = c .before .before .before .before .before .before .before .before .before .before .args in
-    found-refused (s .block .now) (s .img .now) (s .a) (s .b) (decided-true (c .before .before .before .before .before .before .before .channels-fit .result) (c .before .before .before .before .before .before .before .channels-fit .ensures) (not-false _ (c .before .before .before .before .before .before .if1 .left))) (c .before .before .before .before .before .pair-key .ensures) (c .before .before .before .lookup .ensures) (c .before .stage .given .0 .0) (c .before .stage .given .1)
+    let p = c .before in let stage = p .stage in
+    let p = p .before .before in let lookup = p .lookup in
+    let p = p .before .before in let pair-key = p .pair-key in
+    let p = p .before in let if1 = p .if1 in
+    let p = p .before in let channels-fit = p .channels-fit in
+    let start = p .before .before .before in
+    let s = start .args in
+    found-refused (s .block .now) (s .img .now) (s .a) (s .b)
+    (decided-true (channels-fit .result) (channels-fit .ensures) (not-false _ (if1 .left))) (pair-key .ensures) (lookup .ensures)
+    (stage .given .0 .0) (stage .given .1)
 
 returns-4 : tie.Need-returns-4
 returns-4 c =
-    let s = c .before .before .before .before .before .before .before .before .before .args in
-    found-none (s .block .now) (s .img .now) (s .a) (s .b) (decided-true (c .before .before .before .before .before .before .channels-fit .result) (c .before .before .before .before .before .before .channels-fit .ensures) (not-false _ (c .before .before .before .before .before .if1 .left))) (c .before .before .before .before .pair-key .ensures) (c .before .before .lookup .ensures) (c .enum-told2 .given .1)
+    let p = c .before .before .before .before in let pair-key = p .pair-key in
+    let p = p .before in let if1 = p .if1 in
+    let p = p .before in let channels-fit = p .channels-fit in
+    let start = p .before .before .before in
+    let s = start .args in
+    found-none (s .block .now) (s .img .now) (s .a) (s .b)
+    (decided-true (channels-fit .result) (channels-fit .ensures) (not-false _ (if1 .left))) (pair-key .ensures)
+    (c .before .before .lookup .ensures) (c .enum-told2 .given .1)
 
 returns-5 : tie.Need-returns-5
 returns-5 c =
-    let s = c .before .before .before .before .before .before .before .before .before .before .before .before .args in
-    found-record (s .block .now) (s .img .now) (s .a) (s .b) (decided-true (c .before .before .before .before .before .before .before .before .before .channels-fit .result) (c .before .before .before .before .before .before .before .before .before .channels-fit .ensures) (not-false _ (c .before .before .before .before .before .before .before .before .if1 .left))) (c .before .before .before .before .before .before .before .pair-key .ensures) (c .before .before .before .before .before .lookup .ensures) (c .before .before .before .at .given .0 .0) (c .before .before .before .at .given .0 .1 .0) (c .before .before .before .at .given .1) (c .from-record .ensures)
+    let p = c .before .before .before in let at = p .at in
+    let p = p .before .before in let lookup = p .lookup in
+    let p = p .before .before in let pair-key = p .pair-key in
+    let p = p .before in let if1 = p .if1 in
+    let p = p .before in let channels-fit = p .channels-fit in
+    let start = p .before .before .before in
+    let s = start .args in
+    found-record (s .block .now) (s .img .now) (s .a) (s .b)
+    (decided-true (channels-fit .result) (channels-fit .ensures) (not-false _ (if1 .left))) (pair-key .ensures) (lookup .ensures)
+    (at .given .0 .0) (at .given .0 .1 .0) (at .given .1) (c .from-record .ensures)
 
 pub delay-spec : {M : Type 1} → statement M
 delay-spec =

@@ -12,7 +12,9 @@ slice-aggregate-write-le : tie.Need-slice-aggregate-write-le
 slice-aggregate-write-le c = search needs
 
 from-signed-requires : tie.Need-from-signed-requires
-from-signed-requires c κs = held-not (c .before .fits .d) (c .before .pre)
+from-signed-requires c κs =
+    let start = c .before in
+    held-not (start .fits .d) (start .pre)
 
 write-le-requires : tie.Need-write-le-requires
 write-le-requires c κs = search needs

@@ -3,16 +3,24 @@ use Rattle.pairs.proofs.from_signed.Statement.{statement}
 use Rattle.pairs.proofs.from_signed.Tie as tie
 
 sub-result : tie.Need-sub-result
-sub-result c = less-fits (c .before .fits .d) (c .before .pre)
+sub-result c =
+    let start = c .before in
+    less-fits (start .fits .d) (start .pre)
 
 cast-result : tie.Need-cast-result
-cast-result c = negative (c .before .fits .d) (c .before .pre) (c .if1 .taken) .cast
+cast-result c =
+    let start = c .before in
+    negative (start .fits .d) (start .pre) (c .if1 .taken) .cast
 
 sub-result-2 : tie.Need-sub-result-2
-sub-result-2 c = negative (c .before .fits .d) (c .before .pre) (c .if1 .taken) .small
+sub-result-2 c =
+    let start = c .before in
+    negative (start .fits .d) (start .pre) (c .if1 .taken) .small
 
 returns : tie.Need-returns
-returns c = negative (c .before .fits .d) (c .before .pre) (c .if1 .taken) .is
+returns c =
+    let start = c .before in
+    negative (start .fits .d) (start .pre) (c .if1 .taken) .is
 
 cast-result-2 : tie.Need-cast-result-2
 cast-result-2 c = non-negative (c .before .fits .d) (c .if1 .left) .cast

@@ -16,10 +16,14 @@ cast-result-2 : tie.Need-cast-result-2
 cast-result-2 c = search needs
 
 sub-result-2 : tie.Need-sub-result-2
-sub-result-2 c = upper-fits (c .before .args .v) (c .if1 .left) (c .before .pre .0) (c .before .pre .1)
+sub-result-2 c =
+    let start = c .before in
+    upper-fits (start .args .v) (c .if1 .left) (start .pre .0) (start .pre .1)
 
 returns-2 : tie.Need-returns-2
-returns-2 c = upper-is (c .before .args .v) (c .if1 .left) (c .before .pre .0) (c .before .pre .1)
+returns-2 c =
+    let start = c .before in
+    upper-is (start .args .v) (c .if1 .left) (start .pre .0) (start .pre .1)
 
 pub to-signed-spec : {M : Type 1} → statement M
 to-signed-spec =

@@ -38,17 +38,21 @@ put-slot-requires c κs =
 same-length : tie.Need-same-length Inv-loop μ-loop
 same-length c =
     let s = c .before .before .before .before .before .before .before .before .before .before .before .before in
-    emptying-long (s .args .z) (s .args .t) (c .before .before .before .before .before .before .before .before .loop .inv .0) _ (c .before .before .put-slot .ensures)
+    emptying-long (s .args .z) (s .args .t) (c .before .before .before .before .before .before .before .before .loop .inv .0) _
+    (c .before .before .put-slot .ensures)
 
 returns : tie.Need-returns Inv-loop μ-loop
 returns c =
     let s = c .before .before .before .before .before .before .before .before .before .before .before .before in
-    emptying-empty (s .args .z) (s .args .t) (c .before .before .before .before .before .before .before .before .loop .inv .0) (c .before .before .before .before .before .slot .result) (c .before .before .before .before .before .slot .ensures) (c .before .before .before .before .if1 .taken) (c .before .before .put-slot .ensures)
+    emptying-empty (s .args .z) (s .args .t) (c .before .before .before .before .before .before .before .before .loop .inv .0)
+    (c .before .before .before .before .before .slot .result) (c .before .before .before .before .before .slot .ensures)
+    (c .before .before .before .before .if1 .taken) (c .before .before .put-slot .ensures)
 
 stays-requires : tie.Need-stays-requires Inv-loop μ-loop
 stays-requires c κs =
-    let w = c .before .before .before .before .loop .inv .0 in
-    (c .before .before .before .before .before .before .before .before .pre .0 .valid, w .hole-lt, w .i-lt)
+    let p = c .before .before .before .before in let the-loop = p .loop in
+    let start = p .before .before .before .before in
+    let w = the-loop .inv .0 in (start .pre .0 .valid, w .hole-lt, w .i-lt)
 
 put-slot-requires-2 : tie.Need-put-slot-requires-2 Inv-loop μ-loop
 put-slot-requires-2 c κs =
@@ -57,7 +61,9 @@ put-slot-requires-2 c κs =
     (emptying-framed (s .args .z) (s .args .t) w (s .pre .0), s .pre .1, w .hole-lt)
 
 step-requires-2 : tie.Need-step-requires-2 Inv-loop μ-loop
-step-requires-2 c κs = omega (arith, c .before .before .before .before .before .before .loop .inv .0 .i-lt, c .before .before .before .before .before .before .loop .inv .1)
+step-requires-2 c κs =
+    let p = c .before .before .before .before .before .before in let the-loop = p .loop in
+    omega (arith, the-loop .inv .0 .i-lt, the-loop .inv .1)
 
 sub-left : tie.Need-sub-left Inv-loop μ-loop
 sub-left c = search needs
@@ -74,8 +80,12 @@ loop-again c =
     let e = c .step2 .ensures .0 ∙ ap (λ (n : ℕ). next n (at .cursor .slot)) (at .inv .1) in
     let pos = c .before .before .before .before .before .before .loop-test .taken in (
       ⊎-elim
-          (λ w. emptying-moves (s .args .z) (s .args .t) (at .inv .0) (v .result) (v .ensures) (c .before .before .before .if1 .left) pos (c .step2 .result .slot) e (r .result) (r .ensures) (not-true _ (w .0 .taken)) (w .5 ∙ w .2 .ensures) (w .6))
-          (λ w. emptying-stays (s .args .z) (s .args .t) (at .inv .0) (v .result) (v .ensures) (c .before .before .before .if1 .left) pos (c .step2 .result .slot) e (r .result) (r .ensures) (not-false _ (w .0 .left)) (w .1) (w .2))
+          (λ w.
+          emptying-moves (s .args .z) (s .args .t) (at .inv .0) (v .result) (v .ensures) (c .before .before .before .if1 .left) pos
+          (c .step2 .result .slot) e (r .result) (r .ensures) (not-true _ (w .0 .taken)) (w .5 ∙ w .2 .ensures) (w .6))
+          (λ w.
+          emptying-stays (s .args .z) (s .args .t) (at .inv .0) (v .result) (v .ensures) (c .before .before .before .if1 .left) pos
+          (c .step2 .result .slot) e (r .result) (r .ensures) (not-false _ (w .0 .left)) (w .1) (w .2))
           (c .before .if2 .came),
       c .step2 .ensures .1 ∙ at .inv .1,
     )

@@ -15,8 +15,12 @@ empty-slot-requires c κs =
 
 recount-requires : tie.Need-recount-requires
 recount-requires c κs =
-    let s = c .before .before .before .before .before .before .before .before .before .before in
-    (framed-again (c .before .before .before .empty-slot .kept .1 .0 ∙ c .before .before .before .before .before .before .before .clear-marks .kept .1 .0) (s .pre .0), s .pre .1)
+    let s = c .before .before .before .before .before .before .before .before .before .before in (
+      framed-again
+          (c .before .before .before .empty-slot .kept .1 .0 ∙ c .before .before .before .before .before .before .before .clear-marks .kept .1 .0)
+          (s .pre .0),
+      s .pre .1,
+    )
 
 same-length : tie.Need-same-length
 same-length c = search needs
@@ -24,7 +28,9 @@ same-length c = search needs
 returns : tie.Need-returns
 returns c =
     let s = c .before .before .before .before .before .before .before .before .before .before .before .before .before in
-    removed-at (s .args .z) (s .args .img .now) (s .args .t) (s .args .j) (s .args .c) (s .args .n) (c .before .before .before .before .before .before .before .before .before .before .clear-marks .ensures) (c .before .before .before .before .before .before .empty-slot .ensures) (c .before .before .recount .ensures)
+    removed-at (s .args .z) (s .args .img .now) (s .args .t) (s .args .j) (s .args .c) (s .args .n)
+    (c .before .before .before .before .before .before .before .before .before .before .clear-marks .ensures)
+    (c .before .before .before .before .before .before .empty-slot .ensures) (c .before .before .recount .ensures)
 
 pub remove-at-spec : {M : Type 1} → statement M
 remove-at-spec =

@@ -16,7 +16,13 @@ distance-requires c κs = search needs
 returns : tie.Need-returns
 returns c =
     let s = c .before .before .before .before in
-    λ p. omega (arith, p .0, home-distance (s .args .st) (s .args .v) (s .args .h) (c .before .before .before .slot-key .ensures) (c .before .before .start .ensures .0) (c .before .distance .ensures))
+    λ p.
+    omega (
+      arith,
+      p .0,
+      home-distance (s .args .st) (s .args .v) (s .args .h) (c .before .before .before .slot-key .ensures)
+          (c .before .before .start .ensures .0) (c .before .distance .ensures),
+    )
 
 distance-requires-2 : tie.Need-distance-requires-2
 distance-requires-2 c κs = search needs
@@ -24,12 +30,20 @@ distance-requires-2 c κs = search needs
 returns-2 : tie.Need-returns-2
 returns-2 c =
     let s = c .before .before .before .before .before .before in
-    λ p. omega (arith, p .1, home-distance (s .args .st) (s .args .v) (s .args .h) (c .before .before .before .before .before .slot-key .ensures) (c .before .before .before .before .start .ensures .0) (c .before .before .before .distance .ensures))
+    λ p.
+    omega (
+      arith,
+      p .1,
+      home-distance (s .args .st) (s .args .v) (s .args .h) (c .before .before .before .before .before .slot-key .ensures)
+          (c .before .before .before .before .start .ensures .0) (c .before .before .before .distance .ensures),
+    )
 
 returns-3 : tie.Need-returns-3
 returns-3 c =
     let s = c .before .before .before .before .before .before in
-    let e = home-distance (s .args .st) (s .args .v) (s .args .h) (c .before .before .before .before .before .slot-key .ensures) (c .before .before .before .before .start .ensures .0) (c .before .before .before .distance .ensures) in
+    let e =
+    home-distance (s .args .st) (s .args .v) (s .args .h) (c .before .before .before .before .before .slot-key .ensures)
+    (c .before .before .before .before .start .ensures .0) (c .before .before .before .distance .ensures) in
     (omega (arith, e), omega (arith, e))
 
 pub stays-spec : {M : Type 1} → statement M

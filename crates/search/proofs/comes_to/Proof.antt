@@ -19,25 +19,66 @@ add-u : tie.Need-add-u Inv-loop μ-loop
 add-u c = search needs
 
 loop-holds : tie.Need-loop-holds Inv-loop μ-loop
-loop-holds c = reaching-starts (c .before .before .before .args .z) (c .before .before .before .args .img .now) (c .before .before .before .args .key .now) (c .before .before .before .args .t) (c .tier-count .result) _ (c .before .before .before .args .s) (c .tier-count .ensures) refl (c .before .before .before .pre .4) (c .before .before .before .pre .2) (c .before .before .before .pre .1)
+loop-holds c =
+    let start = c .before .before .before in
+    reaching-starts (start .args .z) (start .args .img .now) (start .args .key .now) (start .args .t) (c .tier-count .result) _
+    (start .args .s) (c .tier-count .ensures) refl (start .pre .4) (start .pre .2) (start .pre .1)
 
 returns : tie.Need-returns Inv-loop μ-loop
-returns c = reaching-here (c .before .before .before .before .before .before .args .z) (c .before .before .before .before .before .before .args .img .now) (c .before .before .before .before .before .before .args .key .now) (c .before .before .before .before .before .before .args .t) (c .before .before .loop .inv) (c .before .loop-test .taken) (c .before .before .before .before .before .before .pre .3) (c .before .before .before .before .before .before .pre .6) (c .if1 .taken)
+returns c =
+    let start = c .before .before .before .before .before .before in
+    reaching-here (start .args .z) (start .args .img .now) (start .args .key .now) (start .args .t) (c .before .before .loop .inv)
+    (c .before .loop-test .taken) (start .pre .3) (start .pre .6) (c .if1 .taken)
 
 returns-2 : tie.Need-returns-2 Inv-loop μ-loop
-returns-2 c = reaching-ends (c .before .before .before .before .before .before .before .args .z) (c .before .before .before .before .before .before .before .args .img .now) (c .before .before .before .before .before .before .before .args .key .now) (c .before .before .before .before .before .before .before .args .t) (c .before .before .before .loop .inv) (c .if2 .taken) _
+returns-2 c =
+    let p = c .before .before .before in let the-loop = p .loop in
+    let start = p .before .before .before .before in
+    reaching-ends (start .args .z) (start .args .img .now) (start .args .key .now) (start .args .t) (the-loop .inv) (c .if2 .taken) _
 
 seek-requires : tie.Need-seek-requires Inv-loop μ-loop
-seek-requires c κs = (c .before .before .before .before .before .before .before .pre .0, reaching-tier (c .before .before .before .before .before .before .before .args .z) (c .before .before .before .before .before .before .before .args .img .now) (c .before .before .before .before .before .before .before .args .key .now) (c .before .before .before .before .before .before .before .args .t) (c .before .before .before .loop .inv) (c .before .before .loop-test .taken) (c .if2 .left), c .before .before .before .before .before .before .before .pre .5)
+seek-requires c κs =
+    let p = c .before .before .before in let the-loop = p .loop in
+    let start = p .before .before .before .before in (
+      start .pre .0,
+      reaching-tier (start .args .z) (start .args .img .now) (start .args .key .now) (start .args .t) (the-loop .inv)
+          (c .before .before .loop-test .taken) (c .if2 .left),
+      start .pre .5,
+    )
 
 slot-requires : tie.Need-slot-requires Inv-loop μ-loop
-slot-requires c κs = (c .before .before .before .before .before .before .before .before .pre .0, reaching-tier (c .before .before .before .before .before .before .before .before .args .z) (c .before .before .before .before .before .before .before .before .args .img .now) (c .before .before .before .before .before .before .before .before .args .key .now) (c .before .before .before .before .before .before .before .before .args .t) (c .before .before .before .before .loop .inv) (c .before .before .before .loop-test .taken) (c .before .if2 .left), c .seek .ensures .1)
+slot-requires c κs =
+    let p = c .before .before .before in let loop-test = p .loop-test in
+    let p = p .before in let the-loop = p .loop in
+    let start = p .before .before .before .before in (
+      start .pre .0,
+      reaching-tier (start .args .z) (start .args .img .now) (start .args .key .now) (start .args .t) (the-loop .inv)
+          (loop-test .taken) (c .before .if2 .left),
+      c .seek .ensures .1,
+    )
 
 returns-3 : tie.Need-returns-3 Inv-loop μ-loop
-returns-3 c = reaching-wrong (c .before .before .before .before .before .before .before .before .before .before .args .z) (c .before .before .before .before .before .before .before .before .before .before .args .img .now) (c .before .before .before .before .before .before .before .before .before .before .args .key .now) (c .before .before .before .before .before .before .before .before .before .before .args .t) (c .before .before .before .before .before .before .loop .inv) (c .before .before .before .before .before .loop-test .taken) (c .before .before .before .if2 .left) (c .before .before .seek .result) (c .before .slot .result) (c .before .before .seek .ensures .0) (c .before .slot .ensures) (c .if3 .taken) (c .before .before .before .before .if1 .left) _
+returns-3 c =
+    let p = c .before in let slot = p .slot in
+    let p = p .before in let seek = p .seek in
+    let p = p .before in let if2 = p .if2 in
+    let p = p .before in let if1 = p .if1 in
+    let p = p .before in let loop-test = p .loop-test in
+    let p = p .before in let the-loop = p .loop in
+    let start = p .before .before .before .before in
+    reaching-wrong (start .args .z) (start .args .img .now) (start .args .key .now) (start .args .t) (the-loop .inv) (loop-test .taken)
+    (if2 .left) (seek .result) (slot .result) (seek .ensures .0) (slot .ensures) (c .if3 .taken) (if1 .left) _
 
 next-of-requires : tie.Need-next-of-requires Inv-loop μ-loop
-next-of-requires c κs = (c .before .before .before .before .before .before .before .before .before .before .pre .0, reaching-tier (c .before .before .before .before .before .before .before .before .before .before .args .z) (c .before .before .before .before .before .before .before .before .before .before .args .img .now) (c .before .before .before .before .before .before .before .before .before .before .args .key .now) (c .before .before .before .before .before .before .before .before .before .before .args .t) (c .before .before .before .before .before .before .loop .inv) (c .before .before .before .before .before .loop-test .taken) (c .before .before .before .if2 .left))
+next-of-requires c κs =
+    let p = c .before .before .before in let if2 = p .if2 in
+    let p = p .before .before in let loop-test = p .loop-test in
+    let p = p .before in let the-loop = p .loop in
+    let start = p .before .before .before .before in (
+      start .pre .0,
+      reaching-tier (start .args .z) (start .args .img .now) (start .args .key .now) (start .args .t) (the-loop .inv)
+          (loop-test .taken) (if2 .left),
+    )
 
 add-k : tie.Need-add-k Inv-loop μ-loop
 add-k c = search needs
@@ -46,10 +87,22 @@ loop-less : tie.Need-loop-less Inv-loop μ-loop
 loop-less c = search needs
 
 loop-again : tie.Need-loop-again Inv-loop μ-loop
-loop-again c = reaching-turns (c .before .before .before .before .before .before .before .before .before .before .before .args .z) (c .before .before .before .before .before .before .before .before .before .before .before .args .img .now) (c .before .before .before .before .before .before .before .before .before .before .before .args .key .now) (c .before .before .before .before .before .before .before .before .before .before .before .args .t) (c .before .before .before .before .before .before .before .loop .inv) (c .before .before .before .before .before .before .loop-test .taken) (c .before .before .before .before .if2 .left) (c .before .before .before .seek .result) (c .before .before .slot .result) (c .before .before .before .seek .ensures .0) (c .before .before .slot .ensures) (c .before .if3 .left) (c .next-of .result) (c .next-of .ensures)
+loop-again c =
+    let p = c .before .before in let slot = p .slot in
+    let p = p .before in let seek = p .seek in
+    let p = p .before in let if2 = p .if2 in
+    let p = p .before .before in let loop-test = p .loop-test in
+    let p = p .before in let the-loop = p .loop in
+    let start = p .before .before .before .before in
+    reaching-turns (start .args .z) (start .args .img .now) (start .args .key .now) (start .args .t) (the-loop .inv) (loop-test .taken)
+    (if2 .left) (seek .result) (slot .result) (seek .ensures .0) (slot .ensures) (c .before .if3 .left) (c .next-of .result)
+    (c .next-of .ensures)
 
 returns-4 : tie.Need-returns-4 Inv-loop μ-loop
-returns-4 c = reaching-out (c .before .before .before .before .before .args .z) (c .before .before .before .before .before .args .img .now) (c .before .before .before .before .before .args .key .now) (c .before .before .before .before .before .args .t) (c .before .loop .inv) (c .loop-test .left) _
+returns-4 c =
+    let start = c .before .before .before .before .before in
+    reaching-out (start .args .z) (start .args .img .now) (start .args .key .now) (start .args .t) (c .before .loop .inv)
+    (c .loop-test .left) _
 
 pub comes-to-spec : {M : Type 1} → statement M
 comes-to-spec =

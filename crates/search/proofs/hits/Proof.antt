@@ -9,7 +9,10 @@ slot-key-requires : tie.Need-slot-key-requires
 slot-key-requires c κs = search needs
 
 returns : tie.Need-returns
-returns c = sym (hits-differs (c .before .before .before .before .before .args .z) (c .before .before .before .before .before .args .img .now) (c .before .before .before .before .before .args .key .now) (c .before .before .before .before .before .args .t) (c .before .before .before .before .before .args .v) (c .before .before .before .before .before .args .lookup) (c .before .before .before .before .before .pre .2) (λ q. c .if1 .taken (c .before .slot-key .ensures ∙ q)))
+returns c =
+    let start = c .before .before .before .before .before in
+    sym (hits-differs (start .args .z) (start .args .img .now) (start .args .key .now) (start .args .t) (start .args .v) (start .args .lookup)
+    (start .pre .2) (λ q. c .if1 .taken (c .before .slot-key .ensures ∙ q)))
 
 slot-chunk-requires : tie.Need-slot-chunk-requires
 slot-chunk-requires c κs = search needs
@@ -27,13 +30,34 @@ same-key-requires : tie.Need-same-key-requires
 same-key-requires c κs = search needs
 
 returns-2 : tie.Need-returns-2
-returns-2 c = c .same-key .ensures ∙ hits-broken (c .before .before .before .before .before .before .before .before .before .before .args .z) (c .before .before .before .before .before .before .before .before .before .before .args .img .now) (c .before .before .before .before .before .before .before .before .before .before .args .key .now) (c .before .before .before .before .before .before .before .before .before .before .args .t) (c .before .before .before .before .before .before .before .before .before .before .args .v) (c .before .before .before .before .before .before .before .before .before .before .args .lookup) (c .before .before .before .before .slot-chunk .result) (c .before .before .before .before .before .before .before .before .before .before .pre .2) (sym (c .before .before .before .before .before .before .slot-key .ensures) ∙ c .before .before .before .before .before .if1 .left) (c .before .before .before .before .slot-chunk .ensures) (sym (c .before .before .before .stored .ensures) ∙ c .before .enum-told .given .1)
+returns-2 c =
+    let p = c .before .before .before in let stored = p .stored in
+    let p = p .before in let slot-chunk = p .slot-chunk in
+    let p = p .before in let if1 = p .if1 in
+    let p = p .before in let slot-key = p .slot-key in
+    let start = p .before .before .before .before in
+    c .same-key .ensures ∙ hits-broken (start .args .z) (start .args .img .now) (start .args .key .now) (start .args .t) (start .args .v)
+    (start .args .lookup) (slot-chunk .result) (start .pre .2) (sym (slot-key .ensures) ∙ if1 .left) (slot-chunk .ensures)
+    (sym (stored .ensures) ∙ c .before .enum-told .given .1)
 
 same-key-requires-2 : tie.Need-same-key-requires-2
-same-key-requires-2 c κs = key-in-image (c .before .before .before .before .before .before .before .before .before .before .args .z) (c .before .before .before .before .before .before .before .before .before .before .args .img .now) (c .before .before .before .before .before .before .before .before .before .before .args .t) _ (whole-sound (c .before .before .before .before .before .before .before .before .before .before .args .z) (c .before .before .before .before .before .before .before .before .before .before .args .img .now) (c .before .before .before .before .before .before .before .before .before .before .args .t) _ _ (sym (c .before .before .before .stored .ensures) ∙ c .before .e .given .1)) (c .before .before .before .before .before .before .before .before .before .before .pre .0) (c .before .before .before .before .before .before .before .before .before .before .pre .1)
+same-key-requires-2 c κs =
+    let p = c .before .before .before in let stored = p .stored in
+    let start = p .before .before .before .before .before .before .before in
+    key-in-image (start .args .z) (start .args .img .now) (start .args .t) _
+    (whole-sound (start .args .z) (start .args .img .now) (start .args .t) _ _ (sym (stored .ensures) ∙ c .before .e .given .1))
+    (start .pre .0) (start .pre .1)
 
 returns-3 : tie.Need-returns-3
-returns-3 c = c .same-key2 .ensures ∙ hits-whole (c .before .before .before .before .before .before .before .before .before .before .before .args .z) (c .before .before .before .before .before .before .before .before .before .before .before .args .img .now) (c .before .before .before .before .before .before .before .before .before .before .before .args .key .now) (c .before .before .before .before .before .before .before .before .before .before .before .args .t) (c .before .before .before .before .before .before .before .before .before .before .before .args .v) (c .before .before .before .before .before .before .before .before .before .before .before .args .lookup) (c .before .before .before .before .before .slot-chunk .result) (c .before .before .before .before .before .before .before .before .before .before .before .pre .2) (sym (c .before .before .before .before .before .before .before .slot-key .ensures) ∙ c .before .before .before .before .before .before .if1 .left) (c .before .before .before .before .before .slot-chunk .ensures) _ (sym (c .before .before .before .before .stored .ensures) ∙ c .before .before .e .given .1)
+returns-3 c =
+    let p = c .before .before .before .before in let stored = p .stored in
+    let p = p .before in let slot-chunk = p .slot-chunk in
+    let p = p .before in let if1 = p .if1 in
+    let p = p .before in let slot-key = p .slot-key in
+    let start = p .before .before .before .before in
+    c .same-key2 .ensures ∙ hits-whole (start .args .z) (start .args .img .now) (start .args .key .now) (start .args .t) (start .args .v)
+    (start .args .lookup) (slot-chunk .result) (start .pre .2) (sym (slot-key .ensures) ∙ if1 .left) (slot-chunk .ensures) _
+    (sym (stored .ensures) ∙ c .before .before .e .given .1)
 
 pub hits-spec : {M : Type 1} → statement M
 hits-spec =

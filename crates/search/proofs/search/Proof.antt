@@ -21,7 +21,9 @@ lookup-of-hash-requires : tie.Need-lookup-of-hash-requires Inv-loop μ-loop
 lookup-of-hash-requires c κs = search needs
 
 tier-count-requires : tie.Need-tier-count-requires Inv-loop μ-loop
-tier-count-requires c κs = framed-bounded (c .before .before .before .before .pre .0)
+tier-count-requires c κs =
+    let start = c .before .before .before .before in
+    framed-bounded (start .pre .0)
 
 segment-of-hash-requires : tie.Need-segment-of-hash-requires Inv-loop μ-loop
 segment-of-hash-requires c κs = search needs
@@ -31,23 +33,57 @@ add-t c = search needs
 
 loop-holds : tie.Need-loop-holds Inv-loop μ-loop
 unfolding segmentOf
-loop-holds c = search-starts (c .before .before .before .before .before .before .args .z) (c .before .before .before .before .before .before .args .img .now) (c .before .before .before .before .before .before .args .key .now) (c .before .tier-count .result) _ (c .segment-of-hash .result) (c .before .tier-count .ensures) refl (c .segment-of-hash .ensures .0 ∙ ap (segmentOfHash (c .before .before .before .before .before .before .args .z .settings)) (c .before .before .before .xxh64 .ensures)) (c .segment-of-hash .ensures .1) (c .before .before .before .before .before .before .pre .1)
+loop-holds c =
+    let p = c .before in let tier-count = p .tier-count in
+    let p = p .before .before in let xxh64 = p .xxh64 in
+    let start = p .before .before .before in
+    search-starts (start .args .z) (start .args .img .now) (start .args .key .now) (tier-count .result) _ (c .segment-of-hash .result)
+    (tier-count .ensures) refl (c .segment-of-hash .ensures .0 ∙ ap (segmentOfHash (start .args .z .settings)) (xxh64 .ensures))
+    (c .segment-of-hash .ensures .1) (start .pre .1)
 
 returns : tie.Need-returns Inv-loop μ-loop
-returns c = searching-ends (c .before .before .before .before .before .before .before .before .before .args .z) (c .before .before .before .before .before .before .before .before .before .args .img .now) (c .before .before .before .before .before .before .before .before .before .args .key .now) (c .before .before .loop .inv) (c .if1 .taken)
+returns c =
+    let start = c .before .before .before .before .before .before .before .before .before in
+    searching-ends (start .args .z) (start .args .img .now) (start .args .key .now) (c .before .before .loop .inv) (c .if1 .taken)
 
 seek-requires : tie.Need-seek-requires Inv-loop μ-loop
 unfolding lookupKey
-seek-requires c κs = (c .before .before .before .before .before .before .before .before .before .pre .0, searching-tier (c .before .before .before .before .before .before .before .before .before .args .z) (c .before .before .before .before .before .before .before .before .before .args .img .now) (c .before .before .before .before .before .before .before .before .before .args .key .now) (c .before .before .loop .inv) (omega arith) (c .if1 .left), c .before .before .before .before .before .lookup-of-hash .ensures .0 ∙ ap (lookupOfHash (c .before .before .before .before .before .before .before .before .before .args .z .settings)) (c .before .before .before .before .before .before .xxh64 .ensures))
+seek-requires c κs =
+    let p = c .before .before .before .before .before in let lookup-of-hash = p .lookup-of-hash in
+    let p = p .before in let xxh64 = p .xxh64 in
+    let start = p .before .before .before in (
+      start .pre .0,
+      searching-tier (start .args .z) (start .args .img .now) (start .args .key .now) (c .before .before .loop .inv)
+          (omega arith) (c .if1 .left),
+      lookup-of-hash .ensures .0 ∙ ap (lookupOfHash (start .args .z .settings)) (xxh64 .ensures),
+    )
 
 slot-requires : tie.Need-slot-requires Inv-loop μ-loop
-slot-requires c κs = (c .before .before .before .before .before .before .before .before .before .before .pre .0, searching-tier (c .before .before .before .before .before .before .before .before .before .before .args .z) (c .before .before .before .before .before .before .before .before .before .before .args .img .now) (c .before .before .before .before .before .before .before .before .before .before .args .key .now) (c .before .before .before .loop .inv) (omega arith) (c .before .if1 .left), c .seek .ensures .1)
+slot-requires c κs =
+    let p = c .before .before .before in let the-loop = p .loop in
+    let start = p .before .before .before .before .before .before .before in (
+      start .pre .0,
+      searching-tier (start .args .z) (start .args .img .now) (start .args .key .now) (the-loop .inv) (omega arith)
+          (c .before .if1 .left),
+      c .seek .ensures .1,
+    )
 
 returns-2 : tie.Need-returns-2 Inv-loop μ-loop
-returns-2 c = searching-found (c .before .before .before .before .before .before .before .before .before .before .before .before .args .z) (c .before .before .before .before .before .before .before .before .before .before .before .before .args .img .now) (c .before .before .before .before .before .before .before .before .before .before .before .before .args .key .now) (c .before .before .before .before .before .loop .inv) (omega arith) (c .before .before .before .if1 .left) (c .before .before .seek .result) (c .before .slot .result) (c .before .before .seek .ensures .0) (c .before .slot .ensures) (c .if2 .taken)
+returns-2 c =
+    let p = c .before in let slot = p .slot in
+    let p = p .before in let seek = p .seek in
+    let p = p .before in let if1 = p .if1 in
+    let p = p .before .before in let the-loop = p .loop in
+    let start = p .before .before .before .before .before .before .before in
+    searching-found (start .args .z) (start .args .img .now) (start .args .key .now) (the-loop .inv) (omega arith) (if1 .left)
+    (seek .result) (slot .result) (seek .ensures .0) (slot .ensures) (c .if2 .taken)
 
 next-of-requires : tie.Need-next-of-requires Inv-loop μ-loop
-next-of-requires c κs = (c .before .before .before .before .before .before .before .before .before .before .before .before .pre .0, searching-tier (c .before .before .before .before .before .before .before .before .before .before .before .before .args .z) (c .before .before .before .before .before .before .before .before .before .before .before .before .args .img .now) (c .before .before .before .before .before .before .before .before .before .before .before .before .args .key .now) (c .before .before .before .before .before .loop .inv) (omega arith) (c .before .before .before .if1 .left))
+next-of-requires c κs =
+    let p = c .before .before .before in let if1 = p .if1 in
+    let p = p .before .before in let the-loop = p .loop in
+    let start = p .before .before .before .before .before .before .before in
+    (start .pre .0, searching-tier (start .args .z) (start .args .img .now) (start .args .key .now) (the-loop .inv) (omega arith) (if1 .left))
 
 add-k : tie.Need-add-k Inv-loop μ-loop
 add-k c = search needs
@@ -56,10 +92,20 @@ loop-less : tie.Need-loop-less Inv-loop μ-loop
 loop-less c = search needs
 
 loop-again : tie.Need-loop-again Inv-loop μ-loop
-loop-again c = searching-turns (c .before .before .before .before .before .before .before .before .before .before .before .before .before .args .z) (c .before .before .before .before .before .before .before .before .before .before .before .before .before .args .img .now) (c .before .before .before .before .before .before .before .before .before .before .before .before .before .args .key .now) (c .before .before .before .before .before .before .loop .inv) (omega arith) (c .before .before .before .before .if1 .left) (c .before .before .before .seek .result) (c .before .before .slot .result) (c .before .before .before .seek .ensures .0) (c .before .before .slot .ensures) (c .before .if2 .left) (c .next-of .result) (c .next-of .ensures)
+loop-again c =
+    let p = c .before .before in let slot = p .slot in
+    let p = p .before in let seek = p .seek in
+    let p = p .before in let if1 = p .if1 in
+    let p = p .before in let loop-test = p .loop-test in
+    let p = p .before in let the-loop = p .loop in
+    let start = p .before .before .before .before .before .before .before in
+    searching-turns (start .args .z) (start .args .img .now) (start .args .key .now) (the-loop .inv) (loop-test .taken) (if1 .left)
+    (seek .result) (slot .result) (seek .ensures .0) (slot .ensures) (c .before .if2 .left) (c .next-of .result) (c .next-of .ensures)
 
 returns-3 : tie.Need-returns-3 Inv-loop μ-loop
-returns-3 c = searching-out (c .before .before .before .before .before .before .before .before .args .z) (c .before .before .before .before .before .before .before .before .args .img .now) (c .before .before .before .before .before .before .before .before .args .key .now) (c .before .loop .inv) (omega arith)
+returns-3 c =
+    let start = c .before .before .before .before .before .before .before .before in
+    searching-out (start .args .z) (start .args .img .now) (start .args .key .now) (c .before .loop .inv) (omega arith)
 
 pub search-spec : {M : Type 1} → statement M
 search-spec =

@@ -18,19 +18,38 @@ start-requires : tie.Need-start-requires Inv-loop μ-loop
 start-requires c κs = search needs
 
 loop-holds : tie.Need-loop-holds Inv-loop μ-loop
-loop-holds c = (seek-starts (c .before .before .before .before .args .z) (c .before .before .before .before .args .img .now) (c .before .before .before .before .args .key .now) (c .before .before .before .before .args .t) (c .start .result) (c .before .before .before .before .args .lookup) (c .before .before .before .before .pre .2) (c .start .ensures .0) (c .start .ensures .1), refl)
+loop-holds c =
+    let start2 = c .before .before .before .before in (
+      seek-starts (start2 .args .z) (start2 .args .img .now) (start2 .args .key .now) (start2 .args .t) (c .start .result)
+          (start2 .args .lookup) (start2 .pre .2) (c .start .ensures .0) (c .start .ensures .1),
+      refl,
+    )
 
 slot-requires : tie.Need-slot-requires Inv-loop μ-loop
 slot-requires c κs = search needs
 
 returns : tie.Need-returns Inv-loop μ-loop
-returns c = (seek-empty (c .before .before .before .before .before .before .before .before .args .z) (c .before .before .before .before .before .before .before .before .args .img .now) (c .before .before .before .before .before .before .before .before .args .key .now) (c .before .before .before .before .before .before .before .before .args .t) (c .before .before .before .loop .inv .0) (c .before .slot .result) (c .before .slot .ensures) (c .if1 .taken), c .before .before .before .loop .inv .0 .lt)
+returns c =
+    let p = c .before in let slot = p .slot in
+    let p = p .before .before in let the-loop = p .loop in
+    let start = p .before .before .before .before .before in (
+      seek-empty (start .args .z) (start .args .img .now) (start .args .key .now) (start .args .t) (the-loop .inv .0) (slot .result)
+          (slot .ensures) (c .if1 .taken),
+      the-loop .inv .0 .lt,
+    )
 
 hits-requires : tie.Need-hits-requires Inv-loop μ-loop
 hits-requires c κs = search needs
 
 returns-2 : tie.Need-returns-2 Inv-loop μ-loop
-returns-2 c = (seek-found (c .before .before .before .before .before .before .before .before .before .before .args .z) (c .before .before .before .before .before .before .before .before .before .before .args .img .now) (c .before .before .before .before .before .before .before .before .before .before .args .key .now) (c .before .before .before .before .before .before .before .before .before .before .args .t) (c .before .before .before .before .before .loop .inv .0) (c .before .before .before .slot .result) (c .before .before .before .slot .ensures) (sym (c .before .hits .ensures) ∙ c .if2 .taken), c .before .before .before .before .before .loop .inv .0 .lt)
+returns-2 c =
+    let p = c .before .before .before in let slot = p .slot in
+    let p = p .before .before in let the-loop = p .loop in
+    let start = p .before .before .before .before .before in (
+      seek-found (start .args .z) (start .args .img .now) (start .args .key .now) (start .args .t) (the-loop .inv .0) (slot .result)
+          (slot .ensures) (sym (c .before .hits .ensures) ∙ c .if2 .taken),
+      the-loop .inv .0 .lt,
+    )
 
 step-requires : tie.Need-step-requires Inv-loop μ-loop
 step-requires c κs = search needs
@@ -42,10 +61,23 @@ loop-less : tie.Need-loop-less Inv-loop μ-loop
 loop-less c = search needs
 
 loop-again : tie.Need-loop-again Inv-loop μ-loop
-loop-again c = (seek-turns (c .before .before .before .before .before .before .before .before .before .before .before .args .z) (c .before .before .before .before .before .before .before .before .before .before .before .args .img .now) (c .before .before .before .before .before .before .before .before .before .before .before .args .key .now) (c .before .before .before .before .before .before .before .before .before .before .before .args .t) (c .before .before .before .before .before .before .loop .inv .0) (c .before .before .before .before .slot .result) (c .before .before .before .before .slot .ensures) (c .before .before .before .if1 .left) (sym (c .before .before .hits .ensures) ∙ c .before .if2 .left) (omega arith) (c .step .result .slot) (c .step .ensures .0 ∙ ap (λ (n : ℕ). next n (c .before .before .before .before .before .before .loop .cursor .slot)) (c .before .before .before .before .before .before .loop .inv .1)), c .step .ensures .1 ∙ c .before .before .before .before .before .before .loop .inv .1)
+loop-again c =
+    let p = c .before .before .before in let if1 = p .if1 in
+    let p = p .before in let slot2 = p .slot in
+    let p = p .before in let loop-test = p .loop-test in
+    let p = p .before in let the-loop = p .loop in
+    let start = p .before .before .before .before .before in (
+      seek-turns (start .args .z) (start .args .img .now) (start .args .key .now) (start .args .t) (the-loop .inv .0) (slot2 .result)
+          (slot2 .ensures) (if1 .left) (sym (c .before .before .hits .ensures) ∙ c .before .if2 .left) (loop-test .taken) (c .step .result .slot)
+          (c .step .ensures .0 ∙ ap (λ (n : ℕ). next n (the-loop .cursor .slot)) (the-loop .inv .1)),
+      c .step .ensures .1 ∙ the-loop .inv .1,
+    )
 
 returns-3 : tie.Need-returns-3 Inv-loop μ-loop
-returns-3 c = (seek-out (c .before .before .before .before .before .before .args .z) (c .before .before .before .before .before .before .args .img .now) (c .before .before .before .before .before .before .args .key .now) (c .before .before .before .before .before .before .args .t) (c .before .loop .inv .0) (omega arith), c .before .loop .inv .0 .lt)
+returns-3 c =
+    let p = c .before in let the-loop = p .loop in
+    let start = p .before .before .before .before .before in
+    (seek-out (start .args .z) (start .args .img .now) (start .args .key .now) (start .args .t) (the-loop .inv .0) (omega arith), the-loop .inv .0 .lt)
 
 pub seek-spec : {M : Type 1} → statement M
 seek-spec =

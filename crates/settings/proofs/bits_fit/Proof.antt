@@ -1,5 +1,4 @@
-use Prim.Native.Nat.{_≤_, _<_, _^_}
-use mathlib.Core.Path.{_≡_}
+use Prim.Native.Nat.{_≤_}
 use Rattle.settings.proofs.Laws.{slotSize-le}
 use Rattle.words.proofs.Bits.{shifted-one}
 use native.Mathlib.Omega.{arith}
@@ -20,7 +19,9 @@ returns-4 : tie.Need-returns-4
 returns-4 c = search needs
 
 mul-if5 : tie.Need-mul-if5
-mul-if5 c = omega (arith, slotSize-le (c .before .before .before .before .before .before .before .before .before .args .st) (c .before .before .before .before .before .before .before .before .before .pre) .1)
+mul-if5 c =
+    let start = c .before .before .before .before .before .before .before .before .before in
+    omega (arith, slotSize-le (start .args .st) (start .pre) .1)
 
 add-if5 : tie.Need-add-if5
 add-if5 c = search needs
@@ -38,10 +39,23 @@ shl-if8 : tie.Need-shl-if8
 shl-if8 c = search needs
 
 returns-8 : tie.Need-returns-8
-returns-8 c = λ p. let h : c .before .before .before .before .before .before .before .before .before .before .before .before .before .before .before .before .before .before .args .st .chunkBits ≤ 32 = p .1 .0 .1 in omega (arith, shifted-one 64 (c .before .before .before .before .before .before .before .before .before .before .before .before .before .before .before .before .before .before .args .st .chunkBits) (omega arith))
+returns-8 c =
+    let start =
+    c .before .before .before .before .before .before .before .before .before .before .before .before .before .before .before .before .before .before
+    in
+    λ p. let h : start .args .st .chunkBits ≤ 32 = p .1 .0 .1 in omega (arith, shifted-one 64 (start .args .st .chunkBits) (omega arith))
 
 returns-9 : tie.Need-returns-9
-returns-9 c = let h : c .before .before .before .before .before .before .before .before .before .before .before .before .before .before .before .before .before .before .args .st .chunkBits ≤ 32 = omega (arith, c .before .before .before .before .before .before .before .before) in (omega (arith, c .before .before .before .before .before .before .before .before .before .before .before .before), ((omega (arith, c .before .before .before .before .before .before .before .before), h), (omega (arith, c .before .before .before .before .before .before), omega (arith, shifted-one 64 (c .before .before .before .before .before .before .before .before .before .before .before .before .before .before .before .before .before .before .args .st .chunkBits) (omega arith)))), omega (arith, c .before .before))
+returns-9 c =
+    let at3 = c .before .before .before .before .before .before in
+    let at2 = at3 .before .before in
+    let at = at2 .before .before .before .before in
+    let start = at .before .before .before .before .before .before in
+    let h : start .args .st .chunkBits ≤ 32 = omega (arith, at2) in (
+      omega (arith, at),
+      ((omega (arith, at2), h), (omega (arith, at3), omega (arith, shifted-one 64 (start .args .st .chunkBits) (omega arith)))),
+      omega (arith, c .before .before),
+    )
 
 pub bits-fit-spec : {M : Type 1} → statement M
 bits-fit-spec =

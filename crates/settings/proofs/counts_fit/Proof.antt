@@ -1,4 +1,3 @@
-use mathlib.Core.Path.{_≡_}
 use Rattle.lists.proofs.Decides.{decided-true, decided-false}
 use borrow.Author.Tests.{not-true, not-false}
 use native.Mathlib.Omega.{arith}
@@ -34,16 +33,32 @@ power-of-two-requires : tie.Need-power-of-two-requires
 power-of-two-requires c κs = search needs
 
 returns-9 : tie.Need-returns-9
-returns-9 c = λ p. decided-false (c .before .power-of-two .result) (c .before .power-of-two .ensures) (not-true _ (c .if9 .taken)) (p .1 .0)
+returns-9 c =
+    let p = c .before in let power-of-two = p .power-of-two in
+    λ p. decided-false (power-of-two .result) (power-of-two .ensures) (not-true _ (c .if9 .taken)) (p .1 .0)
 
 power-of-two-requires-2 : tie.Need-power-of-two-requires-2
 power-of-two-requires-2 c κs = search needs
 
 returns-10 : tie.Need-returns-10
-returns-10 c = λ p. decided-false (c .before .power-of-two2 .result) (c .before .power-of-two2 .ensures) (not-true _ (c .if10 .taken)) (p .3 .0)
+returns-10 c =
+    let p = c .before in let power-of-two2 = p .power-of-two2 in
+    λ p. decided-false (power-of-two2 .result) (power-of-two2 .ensures) (not-true _ (c .if10 .taken)) (p .3 .0)
 
 returns-11 : tie.Need-returns-11
-returns-11 c = (omega (arith, c .before .before .before .before .before .before .before .before .before .before .before .before), (decided-true (c .before .before .before .power-of-two .result) (c .before .before .before .power-of-two .ensures) (not-false _ (c .before .before .if9 .left)), omega (arith, c .before .before .before .before .before .before .before .before)), omega (arith, c .before .before .before .before .before .before), (decided-true (c .before .power-of-two2 .result) (c .before .power-of-two2 .ensures) (not-false _ (c .if10 .left)), omega (arith, c .before .before .before .before)))
+returns-11 c =
+    let p = c .before in let power-of-two2 = p .power-of-two2 in
+    let p = p .before .before in let power-of-two = p .power-of-two in
+    let at4 = p .before in
+    let at3 = at4 .before .before in
+    let at2 = at3 .before .before in
+    let at = at2 .before .before .before .before in (
+      omega (arith, at),
+      (decided-true (power-of-two .result) (power-of-two .ensures) (not-false _ (c .before .before .if9 .left)), omega (arith, at2)),
+      omega
+          (arith, at3),
+      (decided-true (power-of-two2 .result) (power-of-two2 .ensures) (not-false _ (c .if10 .left)), omega (arith, at4)),
+    )
 
 pub counts-fit-spec : {M : Type 1} → statement M
 counts-fit-spec =

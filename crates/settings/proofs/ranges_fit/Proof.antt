@@ -31,7 +31,9 @@ returns-9 : tie.Need-returns-9
 returns-9 c = search needs
 
 returns-10 : tie.Need-returns-10
-returns-10 c = omega (arith, c .before .before .before .before .before .before .before .before .before)
+returns-10 c =
+    let at = c .before .before .before .before .before .before .before .before .before in
+    omega (arith, at)
 
 pub ranges-fit-spec : {M : Type 1} → statement M
 ranges-fit-spec =

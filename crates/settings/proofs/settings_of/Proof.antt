@@ -56,7 +56,40 @@ field-requires-17 c κs = search needs
 
 returns : tie.Need-returns
 unfolding settingsOf
-returns c = λ i. record { globalAt = c .before .before .before .before .before .before .before .before .before .before .before .before .before .before .before .before .field .ensures i; segments = c .before .before .before .before .before .before .before .before .before .before .before .before .before .before .before .field2 .ensures i; headerSize = c .before .before .before .before .before .before .before .before .before .before .before .before .before .before .field3 .ensures i; slotSize = c .before .before .before .before .before .before .before .before .before .before .before .before .before .field4 .ensures i; slots = c .before .before .before .before .before .before .before .before .before .before .before .before .field5 .ensures i; keyBits = c .before .before .before .before .before .before .before .before .before .before .before .field6 .ensures i; chunkBits = c .before .before .before .before .before .before .before .before .before .before .field7 .ensures i; lookupSize = c .before .before .before .before .before .before .before .before .before .field8 .ensures i; freeListSize = c .before .before .before .before .before .before .before .before .field9 .ensures i; innerOffset = c .before .before .before .before .before .before .before .field10 .ensures i; chunks = c .before .before .before .before .before .before .field11 .ensures i; chunkSize = c .before .before .before .before .before .field12 .ensures i; tierSize = c .before .before .before .before .field13 .ensures i; bulkInner = c .before .before .before .field14 .ensures i; bulkTiers = c .before .before .field15 .ensures i; bulkSize = c .before .field16 .ensures i; mostChunks = c .field17 .ensures i }
+returns c =
+    let p = c .before .before .before in let field14 = p .field14 in
+    let p = p .before in let field13 = p .field13 in
+    let p = p .before in let field12 = p .field12 in
+    let p = p .before in let field11 = p .field11 in
+    let p = p .before in let field10 = p .field10 in
+    let p = p .before in let field9 = p .field9 in
+    let p = p .before in let field8 = p .field8 in
+    let p = p .before in let field7 = p .field7 in
+    let p = p .before in let field6 = p .field6 in
+    let p = p .before in let field5 = p .field5 in
+    let p = p .before in let field4 = p .field4 in
+    let p = p .before in let field3 = p .field3 in
+    let p = p .before in let field2 = p .field2 in
+    let p = p .before in let field = p .field in
+    λ i. record {
+      globalAt = field .ensures i;
+      segments = field2 .ensures i;
+      headerSize = field3 .ensures i;
+      slotSize = field4 .ensures i;
+      slots = field5 .ensures i;
+      keyBits = field6 .ensures i;
+      chunkBits = field7 .ensures i;
+      lookupSize = field8 .ensures i;
+      freeListSize = field9 .ensures i;
+      innerOffset = field10 .ensures i;
+      chunks = field11 .ensures i;
+      chunkSize = field12 .ensures i;
+      tierSize = field13 .ensures i;
+      bulkInner = field14 .ensures i;
+      bulkTiers = c .before .before .field15 .ensures i;
+      bulkSize = c .before .field16 .ensures i;
+      mostChunks = c .field17 .ensures i;
+    }
 
 pub settings-of-spec : {M : Type 1} → statement M
 settings-of-spec =

@@ -6,7 +6,9 @@ use Rattle.settings.proofs.sizes_fit.Statement.{statement}
 use Rattle.settings.proofs.sizes_fit.Tie as tie
 
 mul-if1 : tie.Need-mul-if1
-mul-if1 c = omega (arith, product-le {m = 4096} {n = 8} (c .before .pre .1 .1 .1) (slotSize-le (c .before .args .st) (c .before .pre .0) .1))
+mul-if1 c =
+    let start = c .before in
+    omega (arith, product-le {m = 4096} {n = 8} (start .pre .1 .1 .1) (slotSize-le (start .args .st) (start .pre .0) .1))
 
 returns : tie.Need-returns
 returns c = search needs
@@ -30,13 +32,19 @@ add-if5-2 : tie.Need-add-if5-2
 add-if5-2 c = search needs
 
 add-if5-3 : tie.Need-add-if5-3
-add-if5-3 c = omega (arith, c .before .before .before .before .before .before .before .before .before .before .before .before .before .pre)
+add-if5-3 c =
+    let start = c .before .before .before .before .before .before .before .before .before .before .before .before .before in
+    omega (arith, start .pre)
 
 mul-if5 : tie.Need-mul-if5
-mul-if5 c = omega (arith, product-le {m = 4096} {n = 4096} (c .before .before .before .before .before .before .before .before .before .before .before .before .before .before .pre .2 .1) (c .before .before .before .before .before .before .before .before .before .before .before .before .before .before .pre .3 .1))
+mul-if5 c =
+    let start = c .before .before .before .before .before .before .before .before .before .before .before .before .before .before in
+    omega (arith, product-le {m = 4096} {n = 4096} (start .pre .2 .1) (start .pre .3 .1))
 
 add-if5-4 : tie.Need-add-if5-4
-add-if5-4 c = omega (arith, c .before .before .before .before .before .before .before .before .before .before .before .before .before .before .pre, product-le {m = 4096} {n = 4096} (c .before .before .before .before .before .before .before .before .before .before .before .before .before .before .pre .2 .1) (c .before .before .before .before .before .before .before .before .before .before .before .before .before .before .pre .3 .1))
+add-if5-4 c =
+    let start = c .before .before .before .before .before .before .before .before .before .before .before .before .before .before in
+    omega (arith, start .pre, product-le {m = 4096} {n = 4096} (start .pre .2 .1) (start .pre .3 .1))
 
 returns-5 : tie.Need-returns-5
 returns-5 c = search needs
@@ -45,10 +53,19 @@ returns-6 : tie.Need-returns-6
 returns-6 c = search needs
 
 mul-if7 : tie.Need-mul-if7
-mul-if7 c = let h : c .before .before .before .before .before .before .before .before .before .before .before .before .before .before .before .before .before .before .before .args .st .tierSize ≤ 16777216 = omega arith in omega (arith, product-le {m = 64} {n = 16777216} (c .before .before .before .before .before .before .before .before .before .before .before .before .before .before .before .before .before .before .before .pre .6 .1) h)
+mul-if7 c =
+    let start =
+    c .before .before .before .before .before .before .before .before .before .before .before .before .before .before .before .before .before .before .before
+    in
+    let h : start .args .st .tierSize ≤ 16777216 = omega arith in omega (arith, product-le {m = 64} {n = 16777216} (start .pre .6 .1) h)
 
 add-if7 : tie.Need-add-if7
-add-if7 c = let h : c .before .before .before .before .before .before .before .before .before .before .before .before .before .before .before .before .before .before .before .before .args .st .tierSize ≤ 16777216 = omega arith in omega (arith, c .before .before .before .before .before .before .before .before .before .before .before .before .before .before .before .before .before .before .before .before .pre, product-le {m = 64} {n = 16777216} (c .before .before .before .before .before .before .before .before .before .before .before .before .before .before .before .before .before .before .before .before .pre .6 .1) h)
+add-if7 c =
+    let start =
+    c .before .before .before .before .before .before .before .before .before .before .before .before .before .before .before .before .before .before .before .before
+    in
+    let h : start .args .st .tierSize ≤ 16777216 = omega arith in
+    omega (arith, start .pre, product-le {m = 64} {n = 16777216} (start .pre .6 .1) h)
 
 returns-7 : tie.Need-returns-7
 returns-7 c = search needs
@@ -57,7 +74,11 @@ returns-8 : tie.Need-returns-8
 returns-8 c = search needs
 
 returns-9 : tie.Need-returns-9
-returns-9 c = (omega (arith, c .before .before .before .before .before .before .before .before .before .before .before .before .before .before .before .before), omega (arith, c .before .before .before .before .before .before .before .before .before .before .before .before), omega (arith, c .before .before .before .before .before), omega arith)
+returns-9 c =
+    let at3 = c .before .before .before .before .before in
+    let at2 = at3 .before .before .before .before .before .before .before in
+    let at = at2 .before .before .before .before in
+    (omega (arith, at), omega (arith, at2), omega (arith, at3), omega arith)
 
 pub sizes-fit-spec : {M : Type 1} → statement M
 sizes-fit-spec =

@@ -22,7 +22,12 @@ slot-requires c κs = search needs
 add-n : tie.Need-add-n Inv-loop μ-loop
 add-n c =
     let s = c .before .before .before .before .before .before in
-    omega (arith, counted-few (s .args .z) (s .args .img .now) (s .args .t) (c .before .before .before .before .loop .inv), c .before .before .if1 .taken, s .pre .0 .valid .slots .1 .1)
+    omega (
+      arith,
+      counted-few (s .args .z) (s .args .img .now) (s .args .t) (c .before .before .before .before .loop .inv),
+      c .before .before .if1 .taken,
+      s .pre .0 .valid .slots .1 .1,
+    )
 
 add-j : tie.Need-add-j Inv-loop μ-loop
 add-j c = search needs

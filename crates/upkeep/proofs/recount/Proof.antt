@@ -24,7 +24,10 @@ same-length c = search needs
 returns : tie.Need-returns
 returns c =
     let s = c .before .before .before .before .before .before .before .before .before .before .before .before .before in
-    recounted (s .args .z) (s .args .img .now) (s .args .t) (c .before .before .before .before .before .before .before .before .before .before .full-slots .ensures) (c .before .before .before .before .before .before .before .before .lowest-clear .ensures) (c .before .before .before .before .before .before .put-count .ensures) (c .before .before .put-low .ensures)
+    recounted (s .args .z) (s .args .img .now) (s .args .t)
+    (c .before .before .before .before .before .before .before .before .before .before .full-slots .ensures)
+    (c .before .before .before .before .before .before .before .before .lowest-clear .ensures)
+    (c .before .before .before .before .before .before .put-count .ensures) (c .before .before .put-low .ensures)
 
 pub recount-spec : {M : Type 1} → statement M
 recount-spec =

@@ -1,8 +1,8 @@
 use Rattle.words.specs.Bits.{putBit}
-use Rattle.words.proofs.Bits.{or-sets, and-clears}
-use Prim.Native.Nat.{ℕ, _+_, _*_, _/_, _%_, _^_, _-_, _<_}
-use mathlib.Core.Path.{_≡_, ap, _∙_}
-use lib.ListN.{getD, set}
+use Rattle.words.proofs.Bits.{and-clears}
+use Prim.Native.Nat.{_+_, _/_, _%_}
+use mathlib.Core.Path.{ap}
+use lib.ListN.{set}
 use native.Mathlib.Omega.{arith}
 use borrow.Author.Needs.{needs}
 use Rattle.words.proofs.clear_bit.Statement.{statement}
@@ -28,7 +28,10 @@ same-length c = search needs
 
 returns : tie.Need-returns
 unfolding putBit
-returns c = ap (set (c .before .args .s .now) (c .before .args .at + c .before .args .i / 8)) (and-clears _ (c .before .args .i % 8) (omega (arith, c .slice-known .given (c .before .args .at + c .before .args .i / 8))) (omega arith))
+returns c =
+    let start = c .before in
+    ap (set (start .args .s .now) (start .args .at + start .args .i / 8))
+    (and-clears _ (start .args .i % 8) (omega (arith, c .slice-known .given (start .args .at + start .args .i / 8))) (omega arith))
 
 pub clear-bit-spec : {M : Type 1} → statement M
 clear-bit-spec =

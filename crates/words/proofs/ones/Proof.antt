@@ -26,7 +26,9 @@ cast-sum : tie.Need-cast-sum Inv-loop μ-loop
 cast-sum c = search needs
 
 add-sum : tie.Need-add-sum Inv-loop μ-loop
-add-sum c = omega (arith, ones-le (c .before .before .before .before .args .s .now) (c .before .before .before .before .args .at) (c .before .before .before .before .args .i) (c .before .before .loop .k))
+add-sum c =
+    let start = c .before .before .before .before in
+    omega (arith, ones-le (start .args .s .now) (start .args .at) (start .args .i) (c .before .before .loop .k))
 
 add-k : tie.Need-add-k Inv-loop μ-loop
 add-k c = search needs
@@ -38,7 +40,9 @@ loop-again : tie.Need-loop-again Inv-loop μ-loop
 loop-again c = (omega arith, cc (ones-more _ _ _ _))
 
 returns : tie.Need-returns Inv-loop μ-loop
-returns c = let e : c .before .loop .k ≡ c .before .before .before .args .n = omega arith in cc
+returns c =
+    let start = c .before .before .before in
+    let e : c .before .loop .k ≡ start .args .n = omega arith in cc
 
 pub ones-spec : {M : Type 1} → statement M
 ones-spec =

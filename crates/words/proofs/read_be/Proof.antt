@@ -1,5 +1,5 @@
 use borrow.Author.Needs.{needs}
-use Prim.Native.Nat.{_+_, _-_}
+use Prim.Native.Nat.{_-_}
 use Rattle.words.proofs.Numbers.{ReadingBe, be-starts, be-turns, be-ends, room}
 use native.Mathlib.Omega.{arith}
 use Rattle.words.proofs.read_be.Statement.{statement}
@@ -27,7 +27,9 @@ wide-requires : tie.Need-wide-requires Inv-loop μ-loop
 wide-requires c κs = search needs
 
 add-sum : tie.Need-add-sum Inv-loop μ-loop
-add-sum c = omega (arith, room (c .before .before .before .loop .inv .fits) (omega arith))
+add-sum c =
+    let p = c .before .before .before in let the-loop = p .loop in
+    omega (arith, room (the-loop .inv .fits) (omega arith))
 
 add-k : tie.Need-add-k Inv-loop μ-loop
 add-k c = search needs
@@ -36,7 +38,9 @@ loop-less : tie.Need-loop-less Inv-loop μ-loop
 loop-less c = search needs
 
 loop-again : tie.Need-loop-again Inv-loop μ-loop
-loop-again c = be-turns (c .before .before .before .loop .inv) (c .wide .result) (omega arith) (c .wide .ensures .0) (omega arith)
+loop-again c =
+    let p = c .before .before .before in let the-loop = p .loop in
+    be-turns (the-loop .inv) (c .wide .result) (omega arith) (c .wide .ensures .0) (omega arith)
 
 returns : tie.Need-returns Inv-loop μ-loop
 returns c = be-ends (c .before .loop .inv) (omega arith)

@@ -1,5 +1,4 @@
 use borrow.Author.Needs.{needs}
-use Prim.Native.Nat.{_+_, _-_}
 use Rattle.words.proofs.Numbers.{ReadingLe, le-starts, le-turns, le-ends, room}
 use native.Mathlib.Omega.{arith}
 use Rattle.words.proofs.read_le.Statement.{statement}
@@ -30,13 +29,17 @@ wide-requires : tie.Need-wide-requires Inv-loop μ-loop
 wide-requires c κs = search needs
 
 add-sum : tie.Need-add-sum Inv-loop μ-loop
-add-sum c = omega (arith, room (c .before .before .before .loop .inv .fits) (omega arith))
+add-sum c =
+    let p = c .before .before .before in let the-loop = p .loop in
+    omega (arith, room (the-loop .inv .fits) (omega arith))
 
 loop-less : tie.Need-loop-less Inv-loop μ-loop
 loop-less c = search needs
 
 loop-again : tie.Need-loop-again Inv-loop μ-loop
-loop-again c = le-turns (c .before .before .before .loop .inv) (c .wide .result) (omega arith) (c .wide .ensures .0) (omega arith)
+loop-again c =
+    let p = c .before .before .before in let the-loop = p .loop in
+    le-turns (the-loop .inv) (c .wide .result) (omega arith) (c .wide .ensures .0) (omega arith)
 
 returns : tie.Need-returns Inv-loop μ-loop
 returns c = le-ends (c .before .loop .inv) (omega arith)

@@ -56,7 +56,9 @@ add-result-3 : tie.Need-add-result-3
 add-result-3 c = search needs
 
 returns : tie.Need-returns
-returns c = omega (arith, le-four (c .before .before .before .before .before .before .before .before .before .args .s .now) (c .before .before .before .before .before .before .before .before .before .args .at))
+returns c =
+    let start = c .before .before .before .before .before .before .before .before .before in
+    omega (arith, le-four (start .args .s .now) (start .args .at))
 
 pub read-le4-spec : {M : Type 1} → statement M
 read-le4-spec =

@@ -20,7 +20,9 @@ add-result : tie.Need-add-result
 add-result c = search needs
 
 returns : tie.Need-returns
-returns c = omega (arith, le-eight (c .before .before .before .args .s .now) (c .before .before .before .args .at))
+returns c =
+    let start = c .before .before .before in
+    omega (arith, le-eight (start .args .s .now) (start .args .at))
 
 pub read-le8-spec : {M : Type 1} → statement M
 read-le8-spec =

@@ -27,7 +27,9 @@ loop-less : tie.Need-loop-less Inv-loop μ-loop
 loop-less c = search needs
 
 loop-again : tie.Need-loop-again Inv-loop μ-loop
-loop-again c = put-turns (c .before .before .before .before .before .loop .inv) (omega arith) (c .before .before .set-bit .ensures)
+loop-again c =
+    let p = c .before .before .before .before .before in let the-loop = p .loop in
+    put-turns (the-loop .inv) (omega arith) (c .before .before .set-bit .ensures)
 
 same-length : tie.Need-same-length Inv-loop μ-loop
 same-length c = search needs

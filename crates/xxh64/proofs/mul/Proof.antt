@@ -19,7 +19,9 @@ wrapping-add-u64-requires-2 : tie.Need-wrapping-add-u64-requires-2
 wrapping-add-u64-requires-2 c κs = search needs
 
 returns : tie.Need-returns
-returns c = cc (product (c .before .before .args .a) (c .before .before .args .b))
+returns c =
+    let start = c .before .before in
+    cc (product (start .args .a) (start .args .b))
 
 pub mul-spec : {M : Type 1} → statement M
 mul-spec =

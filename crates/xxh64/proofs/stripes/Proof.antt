@@ -34,14 +34,17 @@ loop-less c = omega arith
 
 loop-again : tie.Need-loop-again Inv-loop μ-loop
 loop-again c =
-    let st = c .before .before .before .loop .st in
+    let p = c .before .before .before in let the-loop = p .loop in
+    let start = p .before .before .before in
+    let st = the-loop .st in
     let e : c .stripe .result .at / 32 ≡ st .at / 32 + 1 = omega arith in
     let f : st .at / 32 * 32 ≡ st .at = omega arith in
-    (omega arith, omega arith, cc (lanes-more (c .before .before .before .before .before .before .args .s .now) (st .at / 32)), cc)
+    (omega arith, omega arith, cc (lanes-more (start .args .s .now) (st .at / 32)), cc)
 
 returns : tie.Need-returns Inv-loop μ-loop
 returns c =
-    let s = c .before .before .before .before .before .args .s .now in
+    let start = c .before .before .before .before .before in
+    let s = start .args .s .now in
     let e : c .before .before .loop .st .at / 32 ≡ length s / 32 = omega arith in
     record { lanes = cc; position = omega arith; total = cc }
 

@@ -17,9 +17,8 @@ returns c = let a = c .before .before .args in cc (tail-none mix4Of 4 (a .s .now
 
 returns-2 : tie.Need-returns-2
 returns-2 c =
-    let a = c .before .before .before .before .args in
-    let e : a .n ≡ 1 = omega arith in
-    cc (tail-one mix4Of 4 (a .s .now) (a .base) (a .acc))
+    let start = c .before .before .before .before in
+    let a = start .args in let e : a .n ≡ 1 = omega arith in cc (tail-one mix4Of 4 (a .s .now) (a .base) (a .acc))
 
 pub tail4-spec : {M : Type 1} → statement M
 tail4-spec = tie.close (tie.spec read-le4-requires mix4-requires returns returns-2)

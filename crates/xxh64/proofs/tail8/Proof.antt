@@ -37,12 +37,14 @@ loop-less c = omega arith
 
 loop-again : tie.Need-loop-again Inv-loop μ-loop
 loop-again c =
-    let a = c .before .before .before .before .before .args in
-    let k = c .before .before .before .loop .k in
-    (omega arith, cc (tail-more mix8Of 8 (a .s .now) (a .base) (a .acc0) k))
+    let p = c .before .before .before in let the-loop = p .loop in
+    let start = p .before .before in
+    let a = start .args in let k = the-loop .k in (omega arith, cc (tail-more mix8Of 8 (a .s .now) (a .base) (a .acc0) k))
 
 returns : tie.Need-returns Inv-loop μ-loop
-returns c = let e : c .before .loop .k ≡ c .before .before .before .args .n = omega arith in cc
+returns c =
+    let start = c .before .before .before in
+    let e : c .before .loop .k ≡ start .args .n = omega arith in cc
 
 pub tail8-spec : {M : Type 1} → statement M
 tail8-spec =

@@ -22,10 +22,14 @@ finish-requires-2 : tie.Need-finish-requires-2
 finish-requires-2 c κs = search needs
 
 returns : tie.Need-returns
-returns c = cc (short (c .before .before .before .before .args .s .now) (search needs))
+returns c =
+    let start = c .before .before .before .before in
+    cc (short (start .args .s .now) (search needs))
 
 returns-2 : tie.Need-returns-2
-returns-2 c = cc (long (c .before .before .before .before .before .before .args .s .now) (search needs))
+returns-2 c =
+    let start = c .before .before .before .before .before .before in
+    cc (long (start .args .s .now) (search needs))
 
 pub xxh64-spec : {M : Type 1} → statement M
 xxh64-spec =

@@ -5,15 +5,12 @@ use Rattle.entries.proofs.keys.log2.Tie as tie
 use Rattle.entries.proofs.keys.log2.Reads as reads
 use Rattle.entries.proofs.keys.log2.Lts as lts
 
--- src/keys.rt:29:10
 cast-result : tie.Need-cast-result
 cast-result c = omega (arith, log2-is (c .args .x) (c .pre) .0)
 
--- src/keys.rt:29:5
 sub-result : tie.Need-sub-result
 sub-result c = omega (arith, log2-is (c .args .x) (c .pre) .0)
 
--- src/keys.rt:25:1
 returns : tie.Need-returns
 returns c = (log2-is (c .args .x) (c .pre) .1, omega arith)
 

@@ -10,29 +10,38 @@ use Rattle.entries.proofs.keys.log2.Reads as log2-reads
 use Rattle.entries.proofs.keys.low_bits.Reads as low-bits-reads
 use Rattle.entries.proofs.keys.ones.Reads as ones-reads
 
--- src/keys.rt:87:30
 log2-requires : tie.Need-log2-requires
 log2-requires c κs = search needs
 
--- src/keys.rt:87:25
 shr-low-bits : tie.Need-shr-low-bits
 shr-low-bits c = search needs
 
--- src/keys.rt:87:9
 low-bits-requires : tie.Need-low-bits-requires
 low-bits-requires c κs = search needs
 
--- src/keys.rt:89:9
 ones-requires : tie.Need-ones-requires
 ones-requires c κs = search needs
 
--- src/keys.rt:89:9
 returns : tie.Need-returns
-returns c = lookup-is (c .before .before .before .before .pre) (c .before .before .before .before .args .h) (c .ones .result) (c .ones .ensures ∙ sym (lookup-ones (c .before .before .before .before .args .st) (c .before .before .before .before .args .h) (sym (c .before .before .low-bits .ensures .0 ∙ ap (λ (n : ℕ). c .before .before .before .before .args .h / n % 2 ^ c .before .before .before .before .args .st .keyBits) (sym (c .before .before .before .log2 .ensures .0))) ∙ c .before .if1 .taken)))
+returns c =
+    let p = c .before .before .before in let log2 = p .log2 in
+    let start = p .before in
+    lookup-is (start .pre) (start .args .h) (c .ones .result)
+    (c .ones .ensures ∙ sym (lookup-ones (start .args .st) (start .args .h)
+    (sym
+    (c .before .before .low-bits .ensures .0 ∙ ap (λ (n : ℕ). start .args .h / n % 2 ^ start .args .st .keyBits) (sym (log2 .ensures .0))) ∙
+    c .before .if1 .taken)))
 
--- src/keys.rt:83:1
 returns-2 : tie.Need-returns-2
-returns-2 c = lookup-is (c .before .before .before .pre) (c .before .before .before .args .h) (c .before .low-bits .result) (c .before .low-bits .ensures .0 ∙ ap (λ (n : ℕ). c .before .before .before .args .h / n % 2 ^ c .before .before .before .args .st .keyBits) (sym (c .before .before .log2 .ensures .0)) ∙ sym (lookup-part (c .before .before .before .args .st) (c .before .before .before .args .h) (λ e. c .if1 .left (c .before .low-bits .ensures .0 ∙ ap (λ (n : ℕ). c .before .before .before .args .h / n % 2 ^ c .before .before .before .args .st .keyBits) (sym (c .before .before .log2 .ensures .0)) ∙ e))))
+returns-2 c =
+    let p = c .before in let low-bits = p .low-bits in
+    let p = p .before in let log2 = p .log2 in
+    let start = p .before in
+    lookup-is (start .pre) (start .args .h) (low-bits .result)
+    (low-bits .ensures .0 ∙ ap (λ (n : ℕ). start .args .h / n % 2 ^ start .args .st .keyBits) (sym (log2 .ensures .0)) ∙ sym
+    (lookup-part (start .args .st) (start .args .h)
+    (λ e. c .if1 .left
+    (low-bits .ensures .0 ∙ ap (λ (n : ℕ). start .args .h / n % 2 ^ start .args .st .keyBits) (sym (log2 .ensures .0)) ∙ e))))
 
 pub lookup-of-hash-spec : {M : Type 1} → statement M
 lookup-of-hash-spec =

@@ -7,7 +7,9 @@ ones-requires : tie.Need-ones-requires
 ones-requires c κs = search needs
 
 returns : tie.Need-returns
-returns c = masked (c .before .args .x) (c .before .args .n) (c .ones .result) (c .ones .ensures)
+returns c =
+    let start = c .before in
+    masked (start .args .x) (start .args .n) (c .ones .result) (c .ones .ensures)
 
 pub low-bits-spec : {M : Type 1} → statement M
 low-bits-spec = tie.close (tie.spec ones-requires returns)

@@ -16,7 +16,9 @@ returns : tie.Need-returns
 returns c = search needs
 
 returns-2 : tie.Need-returns-2
-returns-2 c = sym (shifted-out (c .before .before .args .v) (c .before .before .args .st .keyBits + c .before .before .args .st .chunkBits) (search needs) (omega arith))
+returns-2 c =
+    let start = c .before .before in
+    sym (shifted-out (start .args .v) (start .args .st .keyBits + start .args .st .chunkBits) (search needs) (omega arith))
 
 pub slot-rest-spec : {M : Type 1} → statement M
 slot-rest-spec = tie.close (tie.spec add-n shr-result returns returns-2)

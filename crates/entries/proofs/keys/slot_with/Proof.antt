@@ -9,7 +9,9 @@ shl-result : tie.Need-shl-result
 shl-result c = search needs
 
 returns : tie.Need-returns
-returns c = joined (c .args .st .keyBits) (c .args .st .chunkBits) (c .args .lookup) (c .args .chunk) (search needs) (search needs) (omega (arith, slotSize-le (c .args .st) (c .pre .0 .slotSize) .1))
+returns c =
+    joined (c .args .st .keyBits) (c .args .st .chunkBits) (c .args .lookup) (c .args .chunk) (search needs) (search needs)
+    (omega (arith, slotSize-le (c .args .st) (c .pre .0 .slotSize) .1))
 
 pub slot-with-spec : {M : Type 1} → statement M
 slot-with-spec = tie.close (tie.spec shl-result returns)

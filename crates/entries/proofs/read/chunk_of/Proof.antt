@@ -11,7 +11,9 @@ slot-chunk-requires : tie.Need-slot-chunk-requires
 slot-chunk-requires c κs = search needs
 
 returns : tie.Need-returns
-returns c = c .slot-chunk .ensures ∙ ap (slotChunk (c .before .before .before .args .z .settings)) (c .before .slot .ensures)
+returns c =
+    let start = c .before .before .before in
+    c .slot-chunk .ensures ∙ ap (slotChunk (start .args .z .settings)) (c .before .slot .ensures)
 
 pub chunk-of-spec : {M : Type 1} → statement M
 chunk-of-spec = tie.close (tie.spec slot-requires slot-chunk-requires returns)

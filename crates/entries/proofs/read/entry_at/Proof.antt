@@ -15,7 +15,10 @@ entry-of-requires : tie.Need-entry-of-requires
 entry-of-requires c κs = search needs
 
 returns : tie.Need-returns
-returns c = c .entry-of .ensures ∙ ap entryOf (c .before .stored .ensures) ∙ entry-made (c .before .before .before .before .args .z) (c .before .before .before .before .args .img .now) (c .before .before .before .before .args .t) (c .before .before .before .before .args .j) (c .before .before .chunk-of .ensures)
+returns c =
+    let start = c .before .before .before .before in
+    c .entry-of .ensures ∙ ap entryOf (c .before .stored .ensures) ∙ entry-made (start .args .z) (start .args .img .now) (start .args .t)
+    (start .args .j) (c .before .before .chunk-of .ensures)
 
 pub entry-at-spec : {M : Type 1} → statement M
 entry-at-spec = tie.close (tie.spec chunk-of-requires stored-requires entry-of-requires returns)

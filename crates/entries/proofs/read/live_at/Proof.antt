@@ -16,10 +16,20 @@ entry-of-requires : tie.Need-entry-of-requires
 entry-of-requires c κs = search needs
 
 chunks-for-requires : tie.Need-chunks-for-requires
-chunks-for-requires c κs = let small = entry-small (c .before .before .before .before .args .z) (c .before .before .before .before .args .img .now) (c .before .before .before .before .args .t) (c .before .before .chunk-of .result) in (c .before .before .before .before .pre .0 .valid, rw (c .entry-of .ensures, c .before .stored .ensures) (small .0), rw (c .entry-of .ensures, c .before .stored .ensures) (small .1))
+chunks-for-requires c κs =
+    let p = c .before in let stored = p .stored in
+    let start = p .before .before .before in
+    let small = entry-small (start .args .z) (start .args .img .now) (start .args .t) (c .before .before .chunk-of .result) in
+    (start .pre .0 .valid, rw (c .entry-of .ensures, stored .ensures) (small .0), rw (c .entry-of .ensures, stored .ensures) (small .1))
 
 returns : tie.Need-returns
-returns c = live-made (c .before .before .before .before .before .args .z) (c .before .before .before .before .before .args .img .now) (c .before .before .before .before .before .args .s) (c .before .before .before .before .before .args .t) (c .before .before .before .before .before .args .j) (c .before .before .before .chunk-of .ensures) (c .before .entry-of .ensures ∙ ap entryOf (c .before .before .stored .ensures) ∙ entry-made (c .before .before .before .before .before .args .z) (c .before .before .before .before .before .args .img .now) (c .before .before .before .before .before .args .t) (c .before .before .before .before .before .args .j) (c .before .before .before .chunk-of .ensures)) (c .chunks-for .ensures)
+returns c =
+    let p = c .before .before .before in let chunk-of = p .chunk-of in
+    let start = p .before .before in
+    live-made (start .args .z) (start .args .img .now) (start .args .s) (start .args .t) (start .args .j) (chunk-of .ensures)
+    (c .before .entry-of .ensures ∙ ap entryOf (c .before .before .stored .ensures) ∙ entry-made (start .args .z) (start .args .img .now)
+    (start .args .t) (start .args .j) (chunk-of .ensures))
+    (c .chunks-for .ensures)
 
 pub live-at-spec : {M : Type 1} → statement M
 live-at-spec =

@@ -13,7 +13,9 @@ abbrev μ-loop : tie.MeasureT-loop
 μ-loop img at n key i₀ i = n - i
 
 returns : tie.Need-returns Inv-loop μ-loop
-returns c = sym (length-differs (c .before .args .img .now) (c .before .args .at) (c .before .args .n) (c .before .args .key .now) (c .before .pre) (omega arith))
+returns c =
+    let start = c .before in
+    sym (length-differs (start .args .img .now) (start .args .at) (start .args .n) (start .args .key .now) (start .pre) (omega arith))
 
 loop-holds : tie.Need-loop-holds Inv-loop μ-loop
 loop-holds c = match-starts (omega arith)
@@ -28,7 +30,11 @@ shared-slice-read-if2-2 : tie.Need-shared-slice-read-if2-2 Inv-loop μ-loop
 shared-slice-read-if2-2 c = search needs
 
 returns-2 : tie.Need-returns-2 Inv-loop μ-loop
-returns-2 c = sym (byte-differs (c .before .before .before .before .before .before .args .img .now) (c .before .before .before .before .before .before .args .at) (c .before .before .before .before .before .before .args .n) (c .before .before .before .before .before .before .args .key .now) (c .before .before .before .before .before .before .pre) (c .before .before .before .before .loop .i) (omega arith) (omega arith))
+returns-2 c =
+    let p = c .before .before .before .before in let the-loop = p .loop in
+    let start = p .before .before in
+    sym (byte-differs (start .args .img .now) (start .args .at) (start .args .n) (start .args .key .now) (start .pre) (the-loop .i) (omega arith)
+    (omega arith))
 
 add-i : tie.Need-add-i Inv-loop μ-loop
 add-i c = search needs
@@ -37,10 +43,15 @@ loop-less : tie.Need-loop-less Inv-loop μ-loop
 loop-less c = search needs
 
 loop-again : tie.Need-loop-again Inv-loop μ-loop
-loop-again c = match-turns (c .before .before .before .before .loop .inv) (omega arith) (omega arith)
+loop-again c =
+    let p = c .before .before .before .before in let the-loop = p .loop in
+    match-turns (the-loop .inv) (omega arith) (omega arith)
 
 returns-3 : tie.Need-returns-3 Inv-loop μ-loop
-returns-3 c = sym (all-same (c .before .before .before .args .img .now) (c .before .before .before .args .at) (c .before .before .before .args .n) (c .before .before .before .args .key .now) (c .before .before .before .pre) (c .before .loop .inv) (omega arith))
+returns-3 c =
+    let start = c .before .before .before in
+    sym (all-same (start .args .img .now) (start .args .at) (start .args .n) (start .args .key .now) (start .pre) (c .before .loop .inv)
+    (omega arith))
 
 pub same-key-spec : {M : Type 1} → statement M
 same-key-spec =

@@ -8,13 +8,19 @@ use Rattle.entries.proofs.read.stored.Statement.{statement}
 use Rattle.entries.proofs.read.stored.Tie as tie
 
 returns : tie.Need-returns
-returns c = sym (stored-past (c .before .before .before .args .z) (c .before .before .before .args .img .now) (c .before .before .before .args .t) (c .before .before .before .args .c) (c .if1 .taken))
+returns c =
+    let start = c .before .before .before in
+    sym (stored-past (start .args .z) (start .args .img .now) (start .args .t) (start .args .c) (c .if1 .taken))
 
 chunk-at-requires : tie.Need-chunk-at-requires
 chunk-at-requires c κs = search needs
 
 slice-aggregate-bytes : tie.Need-slice-aggregate-bytes
-slice-aggregate-bytes c = sym (length-take-le (c .before .chunk-at .result) (c .before .before .before .before .before .args .img .now) (omega (arith, c .before .chunk-at .ensures, chunks-inside (c .before .before .before .before .before .pre .0) (c .before .before .before .before .before .args .t) (c .before .before .before .before .before .pre .1), c .before .before .before .before .before .pre .0 .within)))
+slice-aggregate-bytes c =
+    let p = c .before in let chunk-at = p .chunk-at in
+    let start = p .before .before .before .before in
+    sym (length-take-le (chunk-at .result) (start .args .img .now)
+    (omega (arith, chunk-at .ensures, chunks-inside (start .pre .0) (start .args .t) (start .pre .1), start .pre .0 .within)))
 
 chunk-at-requires-2 : tie.Need-chunk-at-requires-2
 chunk-at-requires-2 c κs = search needs
@@ -29,10 +35,26 @@ enum-told : tie.Need-enum-told
 enum-told c = search needs
 
 returns-2 : tie.Need-returns-2
-returns-2 c = sym (key-refused (c .before .before .before .before .before .before .before .before .before .args .z) (c .before .before .before .before .before .before .before .before .before .args .img .now) (c .before .before .before .before .before .before .before .before .before .args .t) (c .before .before .before .before .before .before .before .before .before .args .c) (read-at (c .before .before .before .before .before .before .before .before .before .args .z) (c .before .before .before .before .before .before .before .before .before .args .img .now) (c .before .before .before .before .before .before .before .before .before .args .t) (c .before .before .before .before .before .chunk-at .ensures) (c .before .before .before .chunk-at2 .ensures) ∙ sym (c .before .before .read .ensures) ∙ c .enum-told .given .1))
+returns-2 c =
+    let p = c .before .before .before in let chunk-at2 = p .chunk-at2 in
+    let p = p .before .before in let chunk-at = p .chunk-at in
+    let start = p .before .before .before .before in
+    sym (key-refused (start .args .z) (start .args .img .now) (start .args .t) (start .args .c)
+    (read-at (start .args .z) (start .args .img .now) (start .args .t) (chunk-at .ensures) (chunk-at2 .ensures) ∙ sym
+    (c .before .before .read .ensures) ∙ c .enum-told .given .1))
 
 add-read : tie.Need-add-read
-add-read c = omega (arith, key-room (c .before .before .before .before .before .before .before .before .before .before .args .z) (c .before .before .before .before .before .before .before .before .before .before .args .img .now) (c .before .before .before .before .before .before .before .before .before .before .args .t) (c .before .before .before .before .before .before .before .before .before .before .args .c) (c .before .before .before .before .before .before .before .before .before .before .pre .0) (c .before .before .before .before .before .before .before .before .before .before .pre .1) (read-at (c .before .before .before .before .before .before .before .before .before .before .args .z) (c .before .before .before .before .before .before .before .before .before .before .args .img .now) (c .before .before .before .before .before .before .before .before .before .before .args .t) (c .before .before .before .before .before .before .chunk-at .ensures) (c .before .before .before .before .chunk-at2 .ensures) ∙ sym (c .before .before .before .read .ensures) ∙ c .before .k .given .1))
+add-read c =
+    let p = c .before .before .before in let read = p .read in
+    let p = p .before in let chunk-at2 = p .chunk-at2 in
+    let p = p .before .before in let chunk-at = p .chunk-at in
+    let start = p .before .before .before .before in
+    omega (
+      arith,
+      key-room (start .args .z) (start .args .img .now) (start .args .t) (start .args .c) (start .pre .0) (start .pre .1)
+          (read-at (start .args .z) (start .args .img .now) (start .args .t) (chunk-at .ensures) (chunk-at2 .ensures) ∙ sym (read .ensures)
+          ∙ c .before .k .given .1),
+    )
 
 read-requires-2 : tie.Need-read-requires-2
 read-requires-2 c κs = search needs
@@ -44,10 +66,28 @@ enum-told-2 : tie.Need-enum-told-2
 enum-told-2 c = search needs
 
 returns-3 : tie.Need-returns-3
-returns-3 c = sym (value-refused (c .before .before .before .before .before .before .before .before .before .before .before .before .before .args .z) (c .before .before .before .before .before .before .before .before .before .before .before .before .before .args .img .now) (c .before .before .before .before .before .before .before .before .before .before .before .before .before .args .t) (c .before .before .before .before .before .before .before .before .before .before .before .before .before .args .c) (read-at (c .before .before .before .before .before .before .before .before .before .before .before .before .before .args .z) (c .before .before .before .before .before .before .before .before .before .before .before .before .before .args .img .now) (c .before .before .before .before .before .before .before .before .before .before .before .before .before .args .t) (c .before .before .before .before .before .before .before .before .before .chunk-at .ensures) (c .before .before .before .before .before .before .before .chunk-at2 .ensures) ∙ sym (c .before .before .before .before .before .before .read .ensures) ∙ c .before .before .before .before .k .given .1) (read-at (c .before .before .before .before .before .before .before .before .before .before .before .before .before .args .z) (c .before .before .before .before .before .before .before .before .before .before .before .before .before .args .img .now) (c .before .before .before .before .before .before .before .before .before .before .before .before .before .args .t) (c .before .before .before .before .before .before .before .before .before .chunk-at .ensures) refl ∙ sym (c .before .before .read2 .ensures) ∙ c .enum-told2 .given .1))
+returns-3 c =
+    let p = c .before .before .before .before in let k = p .k in
+    let p = p .before .before in let read = p .read in
+    let p = p .before in let chunk-at2 = p .chunk-at2 in
+    let p = p .before .before in let chunk-at = p .chunk-at in
+    let start = p .before .before .before .before in
+    sym (value-refused (start .args .z) (start .args .img .now) (start .args .t) (start .args .c)
+    (read-at (start .args .z) (start .args .img .now) (start .args .t) (chunk-at .ensures) (chunk-at2 .ensures) ∙ sym (read .ensures) ∙ k .given .1)
+    (read-at (start .args .z) (start .args .img .now) (start .args .t) (chunk-at .ensures) refl
+    ∙ sym (c .before .before .read2 .ensures) ∙ c .enum-told2 .given .1))
 
 returns-4 : tie.Need-returns-4
-returns-4 c = sym (both-read (c .before .before .before .before .before .before .before .before .before .before .before .before .before .before .args .z) (c .before .before .before .before .before .before .before .before .before .before .before .before .before .before .args .img .now) (c .before .before .before .before .before .before .before .before .before .before .before .before .before .before .args .t) (c .before .before .before .before .before .before .before .before .before .before .before .before .before .before .args .c) (read-at (c .before .before .before .before .before .before .before .before .before .before .before .before .before .before .args .z) (c .before .before .before .before .before .before .before .before .before .before .before .before .before .before .args .img .now) (c .before .before .before .before .before .before .before .before .before .before .before .before .before .before .args .t) (c .before .before .before .before .before .before .before .before .before .before .chunk-at .ensures) (c .before .before .before .before .before .before .before .before .chunk-at2 .ensures) ∙ sym (c .before .before .before .before .before .before .before .read .ensures) ∙ c .before .before .before .before .before .k .given .1) (read-at (c .before .before .before .before .before .before .before .before .before .before .before .before .before .before .args .z) (c .before .before .before .before .before .before .before .before .before .before .before .before .before .before .args .img .now) (c .before .before .before .before .before .before .before .before .before .before .before .before .before .before .args .t) (c .before .before .before .before .before .before .before .before .before .before .chunk-at .ensures) refl ∙ sym (c .before .before .before .read2 .ensures) ∙ c .before .v .given .1))
+returns-4 c =
+    let p = c .before .before .before in let read2 = p .read2 in
+    let p = p .before .before in let k = p .k in
+    let p = p .before .before in let read = p .read in
+    let p = p .before in let chunk-at2 = p .chunk-at2 in
+    let p = p .before .before in let chunk-at = p .chunk-at in
+    let start = p .before .before .before .before in
+    sym (both-read (start .args .z) (start .args .img .now) (start .args .t) (start .args .c)
+    (read-at (start .args .z) (start .args .img .now) (start .args .t) (chunk-at .ensures) (chunk-at2 .ensures) ∙ sym (read .ensures) ∙ k .given .1)
+    (read-at (start .args .z) (start .args .img .now) (start .args .t) (chunk-at .ensures) refl ∙ sym (read2 .ensures) ∙ c .before .v .given .1))
 
 pub stored-spec : {M : Type 1} → statement M
 stored-spec =

@@ -24,7 +24,9 @@ returns c =
     picks-after z img (omega (arith, start .pre .0 .valid .segments)) (p .before .start .ensures) (settled .0) (settled .1 .none (c .if1 .taken))
 
 entry-requires : tie.Need-entry-requires
-entry-requires c κs = (c .before .before .before .before .before .pre .0, c .before .before .settled .ensures .1 .onFull (c .if1 .left))
+entry-requires c κs =
+    let start = c .before .before .before .before .before in
+    (start .pre .0, c .before .before .settled .ensures .1 .onFull (c .if1 .left))
 
 returns-2 : tie.Need-returns-2
 returns-2 c =

@@ -15,14 +15,16 @@ read-le4-requires c κs =
     let s = c .before .before .before .before in
     let z = s .args .z in
     let t = s .args .t in
-    place-fits (s .pre .0) (sharedPlace z lowestFree low t) (shared-in z lowestFree low t (s .pre .1)) (c .before .before .shared-at .ensures ∙ sym (shared-at z lowestFree low t)) (sym (shared-wide-main z lowestFree low t (c .if1 .taken)))
+    place-fits (s .pre .0) (sharedPlace z lowestFree low t) (shared-in z lowestFree low t (s .pre .1))
+    (c .before .before .shared-at .ensures ∙ sym (shared-at z lowestFree low t)) (sym (shared-wide-main z lowestFree low t (c .if1 .taken)))
 
 read-le8-requires : tie.Need-read-le8-requires
 read-le8-requires c κs =
     let s = c .before .before .before .before in
     let z = s .args .z in
     let t = s .args .t in
-    place-fits (s .pre .0) (sharedPlace z lowestFree low t) (shared-in z lowestFree low t (s .pre .1)) (c .before .before .shared-at .ensures ∙ sym (shared-at z lowestFree low t)) (sym (shared-wide-extra z lowestFree low t (c .if1 .left)))
+    place-fits (s .pre .0) (sharedPlace z lowestFree low t) (shared-in z lowestFree low t (s .pre .1))
+    (c .before .before .shared-at .ensures ∙ sym (shared-at z lowestFree low t)) (sym (shared-wide-extra z lowestFree low t (c .if1 .left)))
 
 returns : tie.Need-returns
 returns c =
@@ -30,7 +32,9 @@ returns c =
     let z = s .args .z in
     let img = now (s .args .img) in
     let t = s .args .t in
-    c .read-le4 .ensures .0 ∙ get-at z img (sharedPlace z lowestFree low t) (c .before .before .before .shared-at .ensures ∙ sym (shared-at z lowestFree low t)) (sym (shared-wide-main z lowestFree low t (c .before .if1 .taken)))
+    c .read-le4 .ensures .0
+    ∙ get-at z img (sharedPlace z lowestFree low t) (c .before .before .before .shared-at .ensures ∙ sym (shared-at z lowestFree low t))
+    (sym (shared-wide-main z lowestFree low t (c .before .if1 .taken)))
 
 returns-2 : tie.Need-returns-2
 returns-2 c =
@@ -38,7 +42,9 @@ returns-2 c =
     let z = s .args .z in
     let img = now (s .args .img) in
     let t = s .args .t in
-    c .read-le8 .ensures ∙ get-at z img (sharedPlace z lowestFree low t) (c .before .before .before .shared-at .ensures ∙ sym (shared-at z lowestFree low t)) (sym (shared-wide-extra z lowestFree low t (c .before .if1 .left)))
+    c .read-le8 .ensures
+    ∙ get-at z img (sharedPlace z lowestFree low t) (c .before .before .before .shared-at .ensures ∙ sym (shared-at z lowestFree low t))
+    (sym (shared-wide-extra z lowestFree low t (c .before .if1 .left)))
 
 pub low-of-spec : {M : Type 1} → statement M
 low-of-spec =

@@ -15,7 +15,8 @@ read-le8-requires c κs =
     let s = c .before .before in
     let z = s .args .z in
     let t = s .args .t in
-    place-fits (s .pre .0) (sharedPlace z nextTier next t) (shared-in z nextTier next t (s .pre .1)) (c .shared-at .ensures ∙ sym (shared-at z nextTier next t)) (sym (shared-wide z nextTier next t refl))
+    place-fits (s .pre .0) (sharedPlace z nextTier next t) (shared-in z nextTier next t (s .pre .1))
+    (c .shared-at .ensures ∙ sym (shared-at z nextTier next t)) (sym (shared-wide z nextTier next t refl))
 
 returns : tie.Need-returns
 returns c =
@@ -23,7 +24,9 @@ returns c =
     let z = s .args .z in
     let img = now (s .args .img) in
     let t = s .args .t in
-    c .read-le8 .ensures ∙ get-at z img (sharedPlace z nextTier next t) (c .before .shared-at .ensures ∙ sym (shared-at z nextTier next t)) (sym (shared-wide z nextTier next t refl))
+    c .read-le8 .ensures
+    ∙ get-at z img (sharedPlace z nextTier next t) (c .before .shared-at .ensures ∙ sym (shared-at z nextTier next t))
+    (sym (shared-wide z nextTier next t refl))
 
 pub next-of-spec : {M : Type 1} → statement M
 next-of-spec = tie.close (tie.spec shared-at-requires read-le8-requires returns)

@@ -30,7 +30,12 @@ read-le4-requires c κs =
 read-le8-requires : tie.Need-read-le8-requires
 read-le8-requires c κs =
     let s = c .before .before .before .before .before in
-    omega (arith, slot-room (s .pre .0) (s .args .t) (s .args .j) (s .pre .1) (s .pre .2), slot-eight (s .pre .0 .valid .slotSize) (c .if1 .left), c .before .before .before .tier-at .ensures)
+    omega (
+      arith,
+      slot-room (s .pre .0) (s .args .t) (s .args .j) (s .pre .1) (s .pre .2),
+      slot-eight (s .pre .0 .valid .slotSize) (c .if1 .left),
+      c .before .before .before .tier-at .ensures,
+    )
 
 returns : tie.Need-returns
 unfolding wide partWide
@@ -40,7 +45,10 @@ returns c =
     let img = now (s .args .img) in
     let t = s .args .t in
     let j = s .args .j in
-    c .read-le4 .ensures .0 ∙ get-at z img (tier t (slot j)) (ap (λ x. x + j * z .settings .slotSize) (c .before .before .before .before .tier-at .ensures) ∙ sym (slot-at z t j)) (sym (c .before .if1 .taken))
+    c .read-le4 .ensures .0
+    ∙ get-at z img (tier t (slot j))
+    (ap (λ x. x + j * z .settings .slotSize) (c .before .before .before .before .tier-at .ensures) ∙ sym (slot-at z t j))
+    (sym (c .before .if1 .taken))
 
 returns-2 : tie.Need-returns-2
 unfolding wide partWide
@@ -50,7 +58,10 @@ returns-2 c =
     let img = now (s .args .img) in
     let t = s .args .t in
     let j = s .args .j in
-    c .read-le8 .ensures ∙ get-at z img (tier t (slot j)) (ap (λ x. x + j * z .settings .slotSize) (c .before .before .before .before .tier-at .ensures) ∙ sym (slot-at z t j)) (sym (slot-eight (s .pre .0 .valid .slotSize) (c .before .if1 .left)))
+    c .read-le8 .ensures
+    ∙ get-at z img (tier t (slot j))
+    (ap (λ x. x + j * z .settings .slotSize) (c .before .before .before .before .tier-at .ensures) ∙ sym (slot-at z t j))
+    (sym (slot-eight (s .pre .0 .valid .slotSize) (c .before .if1 .left)))
 
 pub slot-spec : {M : Type 1} → statement M
 slot-spec =

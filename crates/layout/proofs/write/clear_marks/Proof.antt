@@ -11,7 +11,15 @@ free-list-at-requires c κs = search needs
 clear-bits-requires : tie.Need-clear-bits-requires
 clear-bits-requires c κs =
     let s = c .before .before .before in
-    omega (arith, free-inside (s .pre .0) (s .args .t) (s .pre .1), s .pre .0 .within, s .pre .0 .small, s .pre .0 .valid .chunks, s .pre .2, c .free-list-at .ensures)
+    omega (
+      arith,
+      free-inside (s .pre .0) (s .args .t) (s .pre .1),
+      s .pre .0 .within,
+      s .pre .0 .small,
+      s .pre .0 .valid .chunks,
+      s .pre .2,
+      c .free-list-at .ensures,
+    )
 
 same-length : tie.Need-same-length
 same-length c = search needs

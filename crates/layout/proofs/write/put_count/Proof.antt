@@ -15,7 +15,8 @@ write-le-requires c κs =
     let s = c .before .before .before in
     let z = s .args .z in
     let t = s .args .t in
-    place-fits (s .pre .0) (sharedPlace z entryCount count t) (shared-in z entryCount count t (s .pre .1)) (c .before .shared-at .ensures ∙ sym (shared-at z entryCount count t)) (sym (shared-wide z entryCount count t refl))
+    place-fits (s .pre .0) (sharedPlace z entryCount count t) (shared-in z entryCount count t (s .pre .1))
+    (c .before .shared-at .ensures ∙ sym (shared-at z entryCount count t)) (sym (shared-wide z entryCount count t refl))
 
 same-length : tie.Need-same-length
 same-length c = search needs
@@ -27,7 +28,10 @@ returns c =
     let img = now (s .args .img) in
     let v = s .args .v in
     let t = s .args .t in
-    c .before .before .write-le .ensures ∙ put-at z img (sharedPlace z entryCount count t) v (c .before .before .before .before .shared-at .ensures ∙ sym (shared-at z entryCount count t)) (sym (shared-wide z entryCount count t refl))
+    c .before .before .write-le .ensures
+    ∙ put-at z img (sharedPlace z entryCount count t) v
+    (c .before .before .before .before .shared-at .ensures ∙ sym (shared-at z entryCount count t))
+    (sym (shared-wide z entryCount count t refl))
 
 pub put-count-spec : {M : Type 1} → statement M
 put-count-spec = tie.close (tie.spec shared-at-requires write-le-requires same-length returns)

@@ -12,7 +12,9 @@ add-write-le : tie.Need-add-write-le
 add-write-le c = search needs
 
 write-le-requires : tie.Need-write-le-requires
-write-le-requires c κs = omega (arith, global-room (c .before .before .before .pre))
+write-le-requires c κs =
+    let start = c .before .before .before in
+    omega (arith, global-room (start .pre))
 
 same-length : tie.Need-same-length
 same-length c = search needs

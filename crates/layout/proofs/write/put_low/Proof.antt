@@ -15,14 +15,18 @@ write-le-requires c κs =
     let s = c .before .before .before .before .before in
     let z = s .args .z in
     let t = s .args .t in
-    place-fits (s .pre .0) (sharedPlace z lowestFree low t) (shared-in z lowestFree low t (s .pre .1)) (c .before .before .before .shared-at .ensures ∙ sym (shared-at z lowestFree low t)) (sym (shared-wide-main z lowestFree low t (c .before .if1 .taken)))
+    place-fits (s .pre .0) (sharedPlace z lowestFree low t) (shared-in z lowestFree low t (s .pre .1))
+    (c .before .before .before .shared-at .ensures ∙ sym (shared-at z lowestFree low t))
+    (sym (shared-wide-main z lowestFree low t (c .before .if1 .taken)))
 
 write-le-requires-2 : tie.Need-write-le-requires-2
 write-le-requires-2 c κs =
     let s = c .before .before .before .before .before in
     let z = s .args .z in
     let t = s .args .t in
-    place-fits (s .pre .0) (sharedPlace z lowestFree low t) (shared-in z lowestFree low t (s .pre .1)) (c .before .before .before .shared-at .ensures ∙ sym (shared-at z lowestFree low t)) (sym (shared-wide-extra z lowestFree low t (c .before .if1 .left)))
+    place-fits (s .pre .0) (sharedPlace z lowestFree low t) (shared-in z lowestFree low t (s .pre .1))
+    (c .before .before .before .shared-at .ensures ∙ sym (shared-at z lowestFree low t))
+    (sym (shared-wide-extra z lowestFree low t (c .before .if1 .left)))
 
 same-length : tie.Need-same-length
 same-length c = search needs
@@ -34,7 +38,10 @@ returns c =
     let img = now (s .args .img) in
     let v = s .args .v in
     let t = s .args .t in
-    c .before .before .write-le .ensures ∙ put-at z img (sharedPlace z lowestFree low t) v (c .before .before .before .before .before .before .shared-at .ensures ∙ sym (shared-at z lowestFree low t)) (sym (shared-wide-main z lowestFree low t (c .before .before .before .before .if1 .taken)))
+    c .before .before .write-le .ensures
+    ∙ put-at z img (sharedPlace z lowestFree low t) v
+    (c .before .before .before .before .before .before .shared-at .ensures ∙ sym (shared-at z lowestFree low t))
+    (sym (shared-wide-main z lowestFree low t (c .before .before .before .before .if1 .taken)))
 
 same-length-2 : tie.Need-same-length-2
 same-length-2 c = search needs
@@ -46,7 +53,10 @@ returns-2 c =
     let img = now (s .args .img) in
     let v = s .args .v in
     let t = s .args .t in
-    c .before .before .write-le2 .ensures ∙ put-at z img (sharedPlace z lowestFree low t) v (c .before .before .before .before .before .before .shared-at .ensures ∙ sym (shared-at z lowestFree low t)) (sym (shared-wide-extra z lowestFree low t (c .before .before .before .before .if1 .left)))
+    c .before .before .write-le2 .ensures
+    ∙ put-at z img (sharedPlace z lowestFree low t) v
+    (c .before .before .before .before .before .before .shared-at .ensures ∙ sym (shared-at z lowestFree low t))
+    (sym (shared-wide-extra z lowestFree low t (c .before .before .before .before .if1 .left)))
 
 pub put-low-spec : {M : Type 1} → statement M
 put-low-spec =

@@ -15,7 +15,8 @@ write-le-requires c κs =
     let s = c .before .before .before in
     let z = s .args .z in
     let t = s .args .t in
-    place-fits (s .pre .0) (sharedPlace z nextTier next t) (shared-in z nextTier next t (s .pre .1)) (c .before .shared-at .ensures ∙ sym (shared-at z nextTier next t)) (sym (shared-wide z nextTier next t refl))
+    place-fits (s .pre .0) (sharedPlace z nextTier next t) (shared-in z nextTier next t (s .pre .1))
+    (c .before .shared-at .ensures ∙ sym (shared-at z nextTier next t)) (sym (shared-wide z nextTier next t refl))
 
 same-length : tie.Need-same-length
 same-length c = search needs
@@ -27,7 +28,9 @@ returns c =
     let img = now (s .args .img) in
     let v = s .args .v in
     let t = s .args .t in
-    c .before .before .write-le .ensures ∙ put-at z img (sharedPlace z nextTier next t) v (c .before .before .before .before .shared-at .ensures ∙ sym (shared-at z nextTier next t)) (sym (shared-wide z nextTier next t refl))
+    c .before .before .write-le .ensures
+    ∙ put-at z img (sharedPlace z nextTier next t) v
+    (c .before .before .before .before .shared-at .ensures ∙ sym (shared-at z nextTier next t)) (sym (shared-wide z nextTier next t refl))
 
 pub put-next-spec : {M : Type 1} → statement M
 put-next-spec = tie.close (tie.spec shared-at-requires write-le-requires same-length returns)

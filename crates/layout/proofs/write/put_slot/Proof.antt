@@ -39,7 +39,9 @@ returns c =
     let v = s .args .v in
     let t = s .args .t in
     let j = s .args .j in
-    c .before .before .write-le .ensures ∙ put-at z img (tier t (slot j)) v (ap (λ x. x + j * z .settings .slotSize) (c .before .before .before .before .tier-at .ensures) ∙ sym (slot-at z t j)) refl
+    c .before .before .write-le .ensures
+    ∙ put-at z img (tier t (slot j)) v
+    (ap (λ x. x + j * z .settings .slotSize) (c .before .before .before .before .tier-at .ensures) ∙ sym (slot-at z t j)) refl
 
 pub put-slot-spec : {M : Type 1} → statement M
 put-slot-spec =

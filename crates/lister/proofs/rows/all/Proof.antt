@@ -18,10 +18,14 @@ first-requires : tie.Need-first-requires Inv-loop μ-loop
 first-requires c κs = framed-largest (c .before .pre .0)
 
 loop-holds : tie.Need-loop-holds Inv-loop μ-loop
-loop-holds c = c .first .ensures (c .before .before .args .img .now) (c .before .before .pre .1) .inChain
+loop-holds c =
+    let start = c .before .before in
+    c .first .ensures (start .args .img .now) (start .pre .1) .inChain
 
 step-requires : tie.Need-step-requires Inv-loop μ-loop
-step-requires c κs = (c .before .before .before .pre .0, c .before .before .before .pre .1, c .loop .inv)
+step-requires c κs =
+    let start = c .before .before .before in
+    (start .pre .0, start .pre .1, c .loop .inv)
 
 enum-known-e : tie.Need-enum-known-e Inv-loop μ-loop
 enum-known-e c = search needs

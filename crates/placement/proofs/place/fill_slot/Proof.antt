@@ -24,7 +24,11 @@ same-length c = search needs
 returns : tie.Need-returns
 returns c =
     let s = c .before .before .before .before .before .before .before .before .before .before .before in
-    slotted-is (s .args .z) (s .args .img .now) (s .args .t) (s .args .c) (s .args .key .now) (c .before .before .before .before .before .before .before .before .xxh64 .ensures) (c .before .before .before .before .before .before .before .lookup-of-hash .ensures .0) (c .before .before .before .before .before .room .ensures .0) (c .before .before .before .before .slot-with .ensures) (c .before .before .put-slot .ensures)
+    slotted-is (s .args .z) (s .args .img .now) (s .args .t) (s .args .c) (s .args .key .now)
+    (c .before .before .before .before .before .before .before .before .xxh64 .ensures)
+    (c .before .before .before .before .before .before .before .lookup-of-hash .ensures .0)
+    (c .before .before .before .before .before .room .ensures .0) (c .before .before .before .before .slot-with .ensures)
+    (c .before .before .put-slot .ensures)
 
 pub fill-slot-spec : {M : Type 1} → statement M
 fill-slot-spec =

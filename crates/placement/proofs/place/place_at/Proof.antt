@@ -10,13 +10,20 @@ write-at-requires c κs = search needs
 
 fill-slot-requires : tie.Need-fill-slot-requires
 fill-slot-requires c κs =
-    let s = c .before .before .before .before .before .before .before .before in
-    (framed-again (c .before .before .before .write-at .kept .1 .0) (s .pre .0), s .pre .1, chunk-lt (s .pre .0) (s .args .t) (s .args .c) (s .args .key .now) (s .args .value .now) (s .pre .2) (s .pre .3) (s .pre .4))
+    let s = c .before .before .before .before .before .before .before .before in (
+      framed-again (c .before .before .before .write-at .kept .1 .0) (s .pre .0),
+      s .pre .1,
+      chunk-lt (s .pre .0) (s .args .t) (s .args .c) (s .args .key .now) (s .args .value .now) (s .pre .2) (s .pre .3) (s .pre .4),
+    )
 
 recount-requires : tie.Need-recount-requires
 recount-requires c κs =
-    let s = c .before .before .before .before .before .before .before .before .before .before .before .before in
-    (framed-again (c .before .before .before .fill-slot .kept .1 .0 ∙ c .before .before .before .before .before .before .before .write-at .kept .1 .0) (s .pre .0), s .pre .1)
+    let s = c .before .before .before .before .before .before .before .before .before .before .before .before in (
+      framed-again
+          (c .before .before .before .fill-slot .kept .1 .0 ∙ c .before .before .before .before .before .before .before .write-at .kept .1 .0)
+          (s .pre .0),
+      s .pre .1,
+    )
 
 same-length : tie.Need-same-length
 same-length c = search needs
@@ -24,7 +31,9 @@ same-length c = search needs
 returns : tie.Need-returns
 returns c =
     let s = c .before .before .before .before .before .before .before .before .before .before .before .before .before .before .before in
-    placed-is (s .args .z) (s .args .img .now) (s .args .t) (s .args .c) (s .args .key .now) (s .args .value .now) (c .before .before .before .before .before .before .before .before .before .before .write-at .ensures) (c .before .before .before .before .before .before .fill-slot .ensures) (c .before .before .recount .ensures)
+    placed-is (s .args .z) (s .args .img .now) (s .args .t) (s .args .c) (s .args .key .now) (s .args .value .now)
+    (c .before .before .before .before .before .before .before .before .before .before .write-at .ensures)
+    (c .before .before .before .before .before .before .fill-slot .ensures) (c .before .before .recount .ensures)
 
 pub place-at-spec : {M : Type 1} → statement M
 place-at-spec =

@@ -18,8 +18,11 @@ start-requires c κs = search needs
 
 loop-holds : tie.Need-loop-holds Inv-loop μ-loop
 loop-holds c =
-    let s = c .before .before .before in
-    (rooming-starts (s .args .z) (s .args .img .now) (s .args .t) (start (s .args .z .settings) (s .args .lookup)) (c .start .result) (c .start .ensures .0) (c .start .ensures .1), refl)
+    let s = c .before .before .before in (
+      rooming-starts (s .args .z) (s .args .img .now) (s .args .t) (start (s .args .z .settings) (s .args .lookup)) (c .start .result)
+          (c .start .ensures .0) (c .start .ensures .1),
+      refl,
+    )
 
 slot-requires : tie.Need-slot-requires Inv-loop μ-loop
 slot-requires c κs = search needs
@@ -27,7 +30,8 @@ slot-requires c κs = search needs
 returns : tie.Need-returns Inv-loop μ-loop
 returns c =
     let s = c .before .before .before .before .before .before .before in
-    rooming-found (s .args .z) (s .args .img .now) (s .args .t) (start (s .args .z .settings) (s .args .lookup)) (c .before .before .before .loop .inv .0) (c .before .slot .result) (c .before .slot .ensures) (c .if1 .taken)
+    rooming-found (s .args .z) (s .args .img .now) (s .args .t) (start (s .args .z .settings) (s .args .lookup))
+    (c .before .before .before .loop .inv .0) (c .before .slot .result) (c .before .slot .ensures) (c .if1 .taken)
 
 step-requires : tie.Need-step-requires Inv-loop μ-loop
 step-requires c κs = search needs
@@ -44,7 +48,8 @@ loop-again c =
     let at = c .before .before .before .before .loop in
     let v = c .before .before .slot in
     let e = c .step .ensures .0 ∙ ap (λ (n : ℕ). next n (at .cursor .slot)) (at .inv .1) in (
-      rooming-turns (s .args .z) (s .args .img .now) (s .args .t) (start (s .args .z .settings) (s .args .lookup)) (at .inv .0) (v .result) (v .ensures) (c .before .if1 .left) (c .before .before .before .loop-test .taken) (c .step .result .slot) e,
+      rooming-turns (s .args .z) (s .args .img .now) (s .args .t) (start (s .args .z .settings) (s .args .lookup)) (at .inv .0) (v .result)
+          (v .ensures) (c .before .if1 .left) (c .before .before .before .loop-test .taken) (c .step .result .slot) e,
       c .step .ensures .1 ∙ at .inv .1,
     )
 

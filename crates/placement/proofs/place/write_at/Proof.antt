@@ -19,7 +19,13 @@ chunk-at-requires c κs =
 write-entry-requires : tie.Need-write-entry-requires
 write-entry-requires c κs =
     let s = c .before .before .before .before .before .before .before .before .before .before in
-    omega (arith, entry-inside (s .pre .0) (s .args .t) (s .args .c) (s .args .key .now) (s .args .value .now) (s .pre .2) (s .pre .3) (s .pre .4) (s .pre .1), c .before .chunk-at .ensures, c .before .before .before .before .set-marks .kept .1 .0)
+    omega (
+      arith,
+      entry-inside (s .pre .0) (s .args .t) (s .args .c) (s .args .key .now) (s .args .value .now) (s .pre .2) (s .pre .3) (s .pre .4)
+          (s .pre .1),
+      c .before .chunk-at .ensures,
+      c .before .before .before .before .set-marks .kept .1 .0,
+    )
 
 same-length : tie.Need-same-length
 same-length c = search needs
@@ -27,7 +33,10 @@ same-length c = search needs
 returns : tie.Need-returns
 returns c =
     let s = c .before .before .before .before .before .before .before .before .before .before .before .before .before in
-    written-is (s .args .z) (s .args .img .now) (s .args .t) (s .args .c) (s .args .key .now) (s .args .value .now) (c .before .before .before .before .before .before .before .before .before .chunks-for .ensures) (c .before .before .before .before .before .before .before .set-marks .ensures) (c .before .before .before .before .chunk-at .ensures) (c .before .before .write-entry .ensures)
+    written-is (s .args .z) (s .args .img .now) (s .args .t) (s .args .c) (s .args .key .now) (s .args .value .now)
+    (c .before .before .before .before .before .before .before .before .before .chunks-for .ensures)
+    (c .before .before .before .before .before .before .before .set-marks .ensures) (c .before .before .before .before .chunk-at .ensures)
+    (c .before .before .write-entry .ensures)
 
 pub write-at-spec : {M : Type 1} → statement M
 write-at-spec =

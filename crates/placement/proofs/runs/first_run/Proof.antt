@@ -24,17 +24,25 @@ add-t c = omega (arith, c .before .before .pre .0 .valid .segments .1 .1)
 loop-holds : tie.Need-loop-holds Inv-loop μ-loop
 loop-holds c =
     let b = c .before .before in
-    seeking-starts (b .args .z) (fullBut (b .args .z) (b .args .img .now) (b .args .old)) (clearBut (b .args .z) (b .args .img .now) (b .args .old)) (b .args .img .now) (b .args .s) (b .args .n) (c .tier-count .result) (b .args .s + 1) (c .tier-count .ensures) refl (b .pre .2)
+    seeking-starts (b .args .z) (fullBut (b .args .z) (b .args .img .now) (b .args .old))
+    (clearBut (b .args .z) (b .args .img .now) (b .args .old)) (b .args .img .now) (b .args .s) (b .args .n) (c .tier-count .result)
+    (b .args .s + 1) (c .tier-count .ensures) refl (b .pre .2)
 
 returns : tie.Need-returns Inv-loop μ-loop
 returns c =
     let b = c .before .before .before .before .before in
-    seeking-ends (b .args .z) (fullBut (b .args .z) (b .args .img .now) (b .args .old)) (clearBut (b .args .z) (b .args .img .now) (b .args .old)) (b .args .img .now) (b .args .s) (b .args .n) (c .before .before .loop .inv) (c .if1 .taken)
+    seeking-ends (b .args .z) (fullBut (b .args .z) (b .args .img .now) (b .args .old))
+    (clearBut (b .args .z) (b .args .img .now) (b .args .old)) (b .args .img .now) (b .args .s) (b .args .n) (c .before .before .loop .inv)
+    (c .if1 .taken)
 
 run-in-requires : tie.Need-run-in-requires Inv-loop μ-loop
 run-in-requires c κs =
-    let b = c .before .before .before .before .before in
-    (b .pre .0, chain-tier (b .args .z) (b .args .img .now) (λ u. ℕ) (b .args .s) (c .before .before .loop .inv .along) (omega arith) (c .if1 .left), b .pre .3, b .pre .4)
+    let b = c .before .before .before .before .before in (
+      b .pre .0,
+      chain-tier (b .args .z) (b .args .img .now) (λ u. ℕ) (b .args .s) (c .before .before .loop .inv .along) (omega arith) (c .if1 .left),
+      b .pre .3,
+      b .pre .4,
+    )
 
 enum-told : tie.Need-enum-told Inv-loop μ-loop
 enum-told c = search needs
@@ -46,15 +54,23 @@ returns-2 : tie.Need-returns-2 Inv-loop μ-loop
 returns-2 c =
     let b = c .before .before .before .before .before .before .before .before in
     c .enum-told2 .given .1 ∙
-    seeking-found (b .args .z) (fullBut (b .args .z) (b .args .img .now) (b .args .old)) (clearBut (b .args .z) (b .args .img .now) (b .args .old)) (b .args .img .now) (b .args .s) (b .args .n) (c .before .before .before .before .before .loop .inv) (omega arith) (c .before .before .before .if1 .left) (c .enum-told2 .given .0 .0) (c .enum-told2 .given .0 .1 .0) (sym (c .before .before .run-in .ensures) ∙ c .enum-told2 .given .1)
+    seeking-found (b .args .z) (fullBut (b .args .z) (b .args .img .now) (b .args .old))
+    (clearBut (b .args .z) (b .args .img .now) (b .args .old)) (b .args .img .now) (b .args .s) (b .args .n)
+    (c .before .before .before .before .before .loop .inv) (omega arith) (c .before .before .before .if1 .left) (c .enum-told2 .given .0 .0)
+    (c .enum-told2 .given .0 .1 .0) (sym (c .before .before .run-in .ensures) ∙ c .enum-told2 .given .1)
 
 next-of-requires : tie.Need-next-of-requires Inv-loop μ-loop
 next-of-requires c κs =
-    let b = c .before .before .before .before .before .before .before .before in
-    (b .pre .0, chain-tier (b .args .z) (b .args .img .now) (λ u. ℕ) (b .args .s) (c .before .before .before .before .before .loop .inv .along) (omega arith) (c .before .before .before .if1 .left))
+    let b = c .before .before .before .before .before .before .before .before in (
+      b .pre .0,
+      chain-tier (b .args .z) (b .args .img .now) (λ u. ℕ) (b .args .s) (c .before .before .before .before .before .loop .inv .along)
+          (omega arith) (c .before .before .before .if1 .left),
+    )
 
 add-k : tie.Need-add-k Inv-loop μ-loop
-add-k c = omega (arith, c .before .before .before .before .before .before .before .tier-count .ensures, c .before .before .before .before .before .before .before .before .before .pre .0 .tierCount)
+add-k c =
+    let p = c .before .before .before .before .before .before .before in let tier-count = p .tier-count in
+    omega (arith, tier-count .ensures, p .before .before .pre .0 .tierCount)
 
 loop-less : tie.Need-loop-less Inv-loop μ-loop
 loop-less c = omega arith
@@ -62,12 +78,17 @@ loop-less c = omega arith
 loop-again : tie.Need-loop-again Inv-loop μ-loop
 loop-again c =
     let b = c .before .before .before .before .before .before .before .before .before in
-    seeking-turns (b .args .z) (fullBut (b .args .z) (b .args .img .now) (b .args .old)) (clearBut (b .args .z) (b .args .img .now) (b .args .old)) (b .args .img .now) (b .args .s) (b .args .n) (c .before .before .before .before .before .before .loop .inv) (omega arith) (c .before .before .before .before .if1 .left) (c .next-of .result) (sym (c .before .before .before .run-in .ensures) ∙ c .before .enum-told .given .1) (c .next-of .ensures)
+    seeking-turns (b .args .z) (fullBut (b .args .z) (b .args .img .now) (b .args .old))
+    (clearBut (b .args .z) (b .args .img .now) (b .args .old)) (b .args .img .now) (b .args .s) (b .args .n)
+    (c .before .before .before .before .before .before .loop .inv) (omega arith) (c .before .before .before .before .if1 .left)
+    (c .next-of .result) (sym (c .before .before .before .run-in .ensures) ∙ c .before .enum-told .given .1) (c .next-of .ensures)
 
 returns-3 : tie.Need-returns-3 Inv-loop μ-loop
 returns-3 c =
     let b = c .before .before .before .before in
-    seeking-out (b .args .z) (fullBut (b .args .z) (b .args .img .now) (b .args .old)) (clearBut (b .args .z) (b .args .img .now) (b .args .old)) (b .args .img .now) (b .args .s) (b .args .n) (c .before .loop .inv) (omega arith)
+    seeking-out (b .args .z) (fullBut (b .args .z) (b .args .img .now) (b .args .old))
+    (clearBut (b .args .z) (b .args .img .now) (b .args .old)) (b .args .img .now) (b .args .s) (b .args .n) (c .before .loop .inv)
+    (omega arith)
 
 pub first-run-spec : {M : Type 1} → statement M
 first-run-spec =

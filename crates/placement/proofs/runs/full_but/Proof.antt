@@ -11,7 +11,12 @@ full-slots-requires c κs = search needs
 returns : tie.Need-returns
 returns c =
     let s = c .before .before .before .before .before in
-    omega (arith, full-old (s .args .z) (s .args .img .now) (s .args .old) (s .args .t) (c .before .if1 .taken), c .before .before .before .full-slots .ensures, c .if2 .taken)
+    omega (
+      arith,
+      full-old (s .args .z) (s .args .img .now) (s .args .old) (s .args .t) (c .before .if1 .taken),
+      c .before .before .before .full-slots .ensures,
+      c .if2 .taken,
+    )
 
 sub-result : tie.Need-sub-result
 sub-result c = search needs
@@ -19,7 +24,12 @@ sub-result c = search needs
 returns-2 : tie.Need-returns-2
 returns-2 c =
     let s = c .before .before .before .before .before in
-    omega (arith, full-old (s .args .z) (s .args .img .now) (s .args .old) (s .args .t) (c .before .if1 .taken), c .before .before .before .full-slots .ensures, c .if2 .left)
+    omega (
+      arith,
+      full-old (s .args .z) (s .args .img .now) (s .args .old) (s .args .t) (c .before .if1 .taken),
+      c .before .before .before .full-slots .ensures,
+      c .if2 .left,
+    )
 
 returns-3 : tie.Need-returns-3
 returns-3 c =

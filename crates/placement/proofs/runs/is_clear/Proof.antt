@@ -13,7 +13,8 @@ add-if3 c = search needs
 returns : tie.Need-returns
 returns c =
     let s = c .before .before .before .before .before .before .before in
-    clear-old (s .args .z) (s .args .img .now) (s .args .old) (s .args .t) (s .args .i) (c .before .before .before .before .if1 .taken) (c .before .before .if2 .taken) (c .if3 .taken)
+    clear-old (s .args .z) (s .args .img .now) (s .args .old) (s .args .t) (s .args .i) (c .before .before .before .before .if1 .taken)
+    (c .before .before .if2 .taken) (c .if3 .taken)
 
 mark-requires : tie.Need-mark-requires
 mark-requires c κs = search needs

@@ -28,21 +28,30 @@ loop-less c = omega arith
 loop-again : tie.Need-loop-again Inv-loop μ-loop
 loop-again c =
     let s = c .before .before .before .before .before .before in
-    running-broken (s .args .z) (fullBut (s .args .z) (s .args .img .now) (s .args .old)) (clearBut (s .args .z) (s .args .img .now) (s .args .old)) (s .args .t) (s .args .n) (c .before .before .before .before .loop .inv) (omega arith) (sym (c .before .is-clear .ensures) ∙ not-true _ (c .if2 .taken))
+    running-broken (s .args .z) (fullBut (s .args .z) (s .args .img .now) (s .args .old))
+    (clearBut (s .args .z) (s .args .img .now) (s .args .old)) (s .args .t) (s .args .n) (c .before .before .before .before .loop .inv)
+    (omega arith) (sym (c .before .is-clear .ensures) ∙ not-true _ (c .if2 .taken))
 
 add-have : tie.Need-add-have Inv-loop μ-loop
-add-have c = omega (arith, c .before .before .before .before .loop .inv .fewer)
+add-have c =
+    let p = c .before .before .before .before in let the-loop = p .loop in
+    omega (arith, the-loop .inv .fewer)
 
 add-i-2 : tie.Need-add-i-2 Inv-loop μ-loop
 add-i-2 c = omega arith
 
 sub-t10 : tie.Need-sub-t10 Inv-loop μ-loop
-sub-t10 c = omega (arith, c .before .before .before .before .before .loop .inv .within)
+sub-t10 c =
+    let p = c .before .before .before .before .before in let the-loop = p .loop in
+    omega (arith, the-loop .inv .within)
 
 returns : tie.Need-returns Inv-loop μ-loop
 returns c =
     let s = c .before .before .before .before .before .before .before in
-    running-found (s .args .z) (fullBut (s .args .z) (s .args .img .now) (s .args .old)) (clearBut (s .args .z) (s .args .img .now) (s .args .old)) (s .args .t) (s .args .n) (c .before .before .before .before .before .loop .inv) (omega arith) (sym (c .before .before .is-clear .ensures) ∙ not-false _ (c .before .if2 .left)) (c .if3 .taken)
+    running-found (s .args .z) (fullBut (s .args .z) (s .args .img .now) (s .args .old))
+    (clearBut (s .args .z) (s .args .img .now) (s .args .old)) (s .args .t) (s .args .n)
+    (c .before .before .before .before .before .loop .inv) (omega arith)
+    (sym (c .before .before .is-clear .ensures) ∙ not-false _ (c .before .if2 .left)) (c .if3 .taken)
 
 loop-less-2 : tie.Need-loop-less-2 Inv-loop μ-loop
 loop-less-2 c = omega arith
@@ -50,12 +59,16 @@ loop-less-2 c = omega arith
 loop-again-2 : tie.Need-loop-again-2 Inv-loop μ-loop
 loop-again-2 c =
     let s = c .before .before .before .before .before .before .before in
-    running-turns (s .args .z) (fullBut (s .args .z) (s .args .img .now) (s .args .old)) (clearBut (s .args .z) (s .args .img .now) (s .args .old)) (s .args .t) (s .args .n) (c .before .before .before .before .before .loop .inv) (omega arith) (sym (c .before .before .is-clear .ensures) ∙ not-false _ (c .before .if2 .left)) (c .if3 .left)
+    running-turns (s .args .z) (fullBut (s .args .z) (s .args .img .now) (s .args .old))
+    (clearBut (s .args .z) (s .args .img .now) (s .args .old)) (s .args .t) (s .args .n)
+    (c .before .before .before .before .before .loop .inv) (omega arith)
+    (sym (c .before .before .is-clear .ensures) ∙ not-false _ (c .before .if2 .left)) (c .if3 .left)
 
 returns-2 : tie.Need-returns-2 Inv-loop μ-loop
 returns-2 c =
     let s = c .before .before .before .before in
-    running-ends (s .args .z) (fullBut (s .args .z) (s .args .img .now) (s .args .old)) (clearBut (s .args .z) (s .args .img .now) (s .args .old)) (s .args .t) (s .args .n) (c .before .before .loop .inv) (omega arith)
+    running-ends (s .args .z) (fullBut (s .args .z) (s .args .img .now) (s .args .old))
+    (clearBut (s .args .z) (s .args .img .now) (s .args .old)) (s .args .t) (s .args .n) (c .before .before .loop .inv) (omega arith)
 
 pub lowest-run-spec : {M : Type 1} → statement M
 lowest-run-spec =

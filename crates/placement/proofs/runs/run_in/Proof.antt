@@ -18,7 +18,9 @@ add-if1 c =
 returns : tie.Need-returns
 returns c =
     let s = c .before .before .before .before in
-    run-full (s .args .z) (fullBut (s .args .z) (s .args .img .now) (s .args .old)) (clearBut (s .args .z) (s .args .img .now) (s .args .old)) (s .args .t) (s .args .n) (omega (arith, c .before .before .full-but .ensures, c .if1 .taken))
+    run-full (s .args .z) (fullBut (s .args .z) (s .args .img .now) (s .args .old))
+    (clearBut (s .args .z) (s .args .img .now) (s .args .old)) (s .args .t) (s .args .n)
+    (omega (arith, c .before .before .full-but .ensures, c .if1 .taken))
 
 lowest-run-requires : tie.Need-lowest-run-requires
 lowest-run-requires c κs = search needs
@@ -27,7 +29,9 @@ returns-2 : tie.Need-returns-2
 returns-2 c =
     let s = c .before .before .before .before .before in
     c .lowest-run .ensures ∙
-    run-lowest (s .args .z) (fullBut (s .args .z) (s .args .img .now) (s .args .old)) (clearBut (s .args .z) (s .args .img .now) (s .args .old)) (s .args .t) (s .args .n) (omega (arith, c .before .before .before .full-but .ensures, c .before .if1 .left))
+    run-lowest (s .args .z) (fullBut (s .args .z) (s .args .img .now) (s .args .old))
+    (clearBut (s .args .z) (s .args .img .now) (s .args .old)) (s .args .t) (s .args .n)
+    (omega (arith, c .before .before .before .full-but .ensures, c .before .if1 .left))
 
 pub run-in-spec : {M : Type 1} → statement M
 run-in-spec = tie.close (tie.spec full-but-requires add-if1 returns lowest-run-requires returns-2)

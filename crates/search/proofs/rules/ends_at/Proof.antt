@@ -22,13 +22,29 @@ start-requires : tie.Need-start-requires Inv-loop μ-loop
 start-requires c κs = search needs
 
 loop-holds : tie.Need-loop-holds Inv-loop μ-loop
-loop-holds c = (coming-starts (c .before .before .args .z) (c .before .before .args .img .now) (c .before .before .args .t) (c .before .before .args .j) (c .before .before .pre .2) (c .start .result) (c .before .before .args .lookup) (c .before .before .pre .5) (c .start .ensures .0) (c .start .ensures .1), refl)
+loop-holds c =
+    let start2 = c .before .before in (
+      coming-starts (start2 .args .z) (start2 .args .img .now) (start2 .args .t) (start2 .args .j) (start2 .pre .2) (c .start .result)
+          (start2 .args .lookup) (start2 .pre .5) (c .start .ensures .0) (c .start .ensures .1),
+      refl,
+    )
 
 slot-requires : tie.Need-slot-requires Inv-loop μ-loop
-slot-requires c κs = (c .before .before .before .before .before .pre .0, c .before .before .before .before .before .pre .1, coming-lt (c .before .before .before .before .before .args .z) (c .before .before .before .before .before .args .img .now) (c .before .before .before .before .before .args .t) (c .before .before .before .before .before .args .j) (c .before .before .before .before .before .pre .2) (c .before .before .loop .inv .0))
+slot-requires c κs =
+    let start = c .before .before .before .before .before in (
+      start .pre .0,
+      start .pre .1,
+      coming-lt (start .args .z) (start .args .img .now) (start .args .t) (start .args .j) (start .pre .2)
+          (c .before .before .loop .inv .0),
+    )
 
 returns : tie.Need-returns Inv-loop μ-loop
-returns c = coming-empty (c .before .before .before .before .before .before .before .args .z) (c .before .before .before .before .before .before .before .args .img .now) (c .before .before .before .before .before .before .before .args .t) (c .before .before .before .before .before .before .before .args .j) (c .before .before .before .before .before .before .before .pre .2) (c .before .before .before .before .loop .inv .0) (c .before .before .if1 .taken) (c .before .slot .result) (c .before .slot .ensures) (c .if2 .taken)
+returns c =
+    let p = c .before in let slot = p .slot in
+    let p = p .before .before .before in let the-loop = p .loop in
+    let start = p .before .before .before in
+    coming-empty (start .args .z) (start .args .img .now) (start .args .t) (start .args .j) (start .pre .2) (the-loop .inv .0)
+    (c .before .before .if1 .taken) (slot .result) (slot .ensures) (c .if2 .taken)
 
 slot-key-requires : tie.Need-slot-key-requires Inv-loop μ-loop
 slot-key-requires c κs = search needs
@@ -37,21 +53,58 @@ same-hit-requires : tie.Need-same-hit-requires Inv-loop μ-loop
 same-hit-requires c κs = search needs
 
 returns-2 : tie.Need-returns-2 Inv-loop μ-loop
-returns-2 c = coming-hit (c .before .before .before .before .before .before .before .before .before .before .before .args .z) (c .before .before .before .before .before .before .before .before .before .before .before .args .img .now) (c .before .before .before .before .before .before .before .before .before .before .before .args .t) (c .before .before .before .before .before .before .before .before .before .before .before .args .j) (c .before .before .before .before .before .before .before .before .before .before .before .pre .2) (c .before .before .before .before .before .before .before .before .loop .inv .0) (c .before .before .before .before .before .before .if1 .taken) (c .before .before .before .before .before .slot .result) (c .before .before .before .before .before .slot .ensures) (sym (c .before .same-hit .ensures) ∙ c .if4 .taken)
+returns-2 c =
+    let p = c .before .before .before .before .before in let slot = p .slot in
+    let p = p .before in let if1 = p .if1 in
+    let p = p .before .before in let the-loop = p .loop in
+    let start = p .before .before .before in
+    coming-hit (start .args .z) (start .args .img .now) (start .args .t) (start .args .j) (start .pre .2) (the-loop .inv .0) (if1 .taken)
+    (slot .result) (slot .ensures) (sym (c .before .same-hit .ensures) ∙ c .if4 .taken)
 
 step-requires : tie.Need-step-requires Inv-loop μ-loop
-step-requires c κs = omega (arith, coming-lt (c .before .before .before .before .before .before .before .before .before .args .z) (c .before .before .before .before .before .before .before .before .before .args .img .now) (c .before .before .before .before .before .before .before .before .before .args .t) (c .before .before .before .before .before .before .before .before .before .args .j) (c .before .before .before .before .before .before .before .before .before .pre .2) (c .before .before .before .before .before .before .loop .inv .0), c .before .before .before .before .before .before .loop .inv .1)
+step-requires c κs =
+    let p = c .before .before .before .before .before .before in let the-loop = p .loop in
+    let start = p .before .before .before in
+    omega (arith, coming-lt (start .args .z) (start .args .img .now) (start .args .t) (start .args .j) (start .pre .2) (the-loop .inv .0), the-loop .inv .1)
 
 loop-less : tie.Need-loop-less Inv-loop μ-loop
-loop-less c = omega (arith, coming-nearer (c .before .before .before .before .before .before .before .before .before .before .args .z) (c .before .before .before .before .before .before .before .before .before .before .args .img .now) (c .before .before .before .before .before .before .before .before .before .before .args .t) (c .before .before .before .before .before .before .before .before .before .before .args .j) (c .before .before .before .before .before .before .before .before .before .before .pre .2) (c .before .before .before .before .before .before .before .loop .inv .0) (c .before .before .before .before .before .if1 .taken) (c .before .before .before .before .slot .result) (c .before .before .before .before .slot .ensures) (c .before .before .before .before .before .before .before .before .before .before .pre .0) (c .step .result .slot) (c .step .ensures .0 ∙ ap (λ (n : ℕ). next n (c .before .before .before .before .before .before .before .loop .cursor .slot)) (c .before .before .before .before .before .before .before .loop .inv .1)))
+loop-less c =
+    let p = c .before .before .before .before in let slot2 = p .slot in
+    let p = p .before in let if1 = p .if1 in
+    let p = p .before .before in let the-loop = p .loop in
+    let start = p .before .before .before in
+    omega (
+      arith,
+      coming-nearer (start .args .z) (start .args .img .now) (start .args .t) (start .args .j) (start .pre .2) (the-loop .inv .0)
+          (if1 .taken) (slot2 .result) (slot2 .ensures) (start .pre .0) (c .step .result .slot)
+          (c .step .ensures .0 ∙ ap (λ (n : ℕ). next n (the-loop .cursor .slot)) (the-loop .inv .1)),
+    )
 
 loop-again : tie.Need-loop-again Inv-loop μ-loop
 loop-again c =
-    let miss : hits (c .before .before .before .before .before .before .before .before .before .before .args .z) (c .before .before .before .before .before .before .before .before .before .before .args .img .now) (keyAt (c .before .before .before .before .before .before .before .before .before .before .args .z) (c .before .before .before .before .before .before .before .before .before .before .args .img .now) (c .before .before .before .before .before .before .before .before .before .before .args .t) (c .before .before .before .before .before .before .before .before .before .before .args .j)) (c .before .before .before .before .before .before .before .before .before .before .args .t) (c .before .before .before .before .slot .result) ≡ false = ⊎-elim (λ h. sym (h .1 .ensures) ∙ h .2 .left) (λ h. hits-differs (c .before .before .before .before .before .before .before .before .before .before .args .z) (c .before .before .before .before .before .before .before .before .before .before .args .img .now) (keyAt (c .before .before .before .before .before .before .before .before .before .before .args .z) (c .before .before .before .before .before .before .before .before .before .before .args .img .now) (c .before .before .before .before .before .before .before .before .before .before .args .t) (c .before .before .before .before .before .before .before .before .before .before .args .j)) (c .before .before .before .before .before .before .before .before .before .before .args .t) (c .before .before .before .before .slot .result) (c .before .before .before .before .before .before .before .before .before .before .args .lookup) (c .before .before .before .before .before .before .before .before .before .before .pre .5) (λ q. h .left (c .before .before .slot-key .ensures ∙ q))) (c .before .if3 .came) in
-    (coming-turns (c .before .before .before .before .before .before .before .before .before .before .args .z) (c .before .before .before .before .before .before .before .before .before .before .args .img .now) (c .before .before .before .before .before .before .before .before .before .before .args .t) (c .before .before .before .before .before .before .before .before .before .before .args .j) (c .before .before .before .before .before .before .before .before .before .before .pre .2) (c .before .before .before .before .before .before .before .loop .inv .0) (c .before .before .before .before .before .if1 .taken) (c .before .before .before .before .slot .result) (c .before .before .before .before .slot .ensures) (c .before .before .before .before .before .before .before .before .before .before .pre .0) (c .before .before .before .if2 .left) miss (c .step .result .slot) (c .step .ensures .0 ∙ ap (λ (n : ℕ). next n (c .before .before .before .before .before .before .before .loop .cursor .slot)) (c .before .before .before .before .before .before .before .loop .inv .1)), c .step .ensures .1 ∙ c .before .before .before .before .before .before .before .loop .inv .1)
+    let p = c .before .before .before in let if2 = p .if2 in
+    let p = p .before in let slot2 = p .slot in
+    let p = p .before in let if1 = p .if1 in
+    let p = p .before .before in let the-loop = p .loop in
+    let start = p .before .before .before in
+    let miss : hits (start .args .z) (start .args .img .now)
+    (keyAt (start .args .z) (start .args .img .now) (start .args .t) (start .args .j)) (start .args .t) (slot2 .result)
+    ≡ false =
+    ⊎-elim (λ h. sym (h .1 .ensures) ∙ h .2 .left) (λ h.
+    hits-differs (start .args .z) (start .args .img .now)
+    (keyAt (start .args .z) (start .args .img .now) (start .args .t) (start .args .j)) (start .args .t) (slot2 .result)
+    (start .args .lookup) (start .pre .5) (λ q. h .left (c .before .before .slot-key .ensures ∙ q))) (c .before .if3 .came) in (
+      coming-turns (start .args .z) (start .args .img .now) (start .args .t) (start .args .j) (start .pre .2) (the-loop .inv .0) (if1 .taken)
+          (slot2 .result) (slot2 .ensures) (start .pre .0) (if2 .left) miss (c .step .result .slot)
+          (c .step .ensures .0 ∙ ap (λ (n : ℕ). next n (the-loop .cursor .slot)) (the-loop .inv .1)),
+      c .step .ensures .1 ∙ the-loop .inv .1,
+    )
 
 returns-3 : tie.Need-returns-3 Inv-loop μ-loop
-returns-3 c = coming-found (c .before .before .before .before .before .args .z) (c .before .before .before .before .before .args .img .now) (c .before .before .before .before .before .args .t) (c .before .before .before .before .before .args .j) (c .before .before .before .before .before .pre .2) (c .before .before .loop .inv .0) (c .before .before .before .before .before .pre .4 .hashed .lookupAgrees) (c .if1 .left)
+returns-3 c =
+    let start = c .before .before .before .before .before in
+    coming-found (start .args .z) (start .args .img .now) (start .args .t) (start .args .j) (start .pre .2)
+    (c .before .before .loop .inv .0) (start .pre .4 .hashed .lookupAgrees) (c .if1 .left)
 
 pub ends-at-spec : {M : Type 1} → statement M
 ends-at-spec =

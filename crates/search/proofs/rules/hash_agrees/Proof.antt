@@ -26,7 +26,10 @@ segment-of-hash-requires c κs = search needs
 
 returns : tie.Need-returns
 unfolding segmentOf lookupKey
-returns c = λ f. c .if1 .taken (c .before .segment-of-hash .ensures .0 ∙ ap (segmentOfHash (c .before .before .before .before .before .before .before .args .z .settings)) (c .before .before .xxh64 .ensures ∙ ap hash (key-cut (c .before .before .before .before .before .before .before .args .img .now) (c .before .before .before .before .before .before .before .args .e .keyAt) (c .before .before .before .before .before .before .before .args .e .keyLength))) ∙ f .segmentAgrees)
+returns c =
+    let start = c .before .before .before .before .before .before .before in
+    λ f. c .if1 .taken (c .before .segment-of-hash .ensures .0 ∙ ap (segmentOfHash (start .args .z .settings))
+    (c .before .before .xxh64 .ensures ∙ ap hash (key-cut (start .args .img .now) (start .args .e .keyAt) (start .args .e .keyLength))) ∙ f .segmentAgrees)
 
 lookup-of-hash-requires : tie.Need-lookup-of-hash-requires
 lookup-of-hash-requires c κs = search needs
@@ -36,11 +39,27 @@ slot-key-requires c κs = search needs
 
 returns-2 : tie.Need-returns-2
 unfolding segmentOf lookupKey
-returns-2 c = λ f. c .if2 .taken (c .before .before .lookup-of-hash .ensures .0 ∙ ap (lookupOfHash (c .before .before .before .before .before .before .before .before .before .before .args .z .settings)) (c .before .before .before .before .before .xxh64 .ensures ∙ ap hash (key-cut (c .before .before .before .before .before .before .before .before .before .before .args .img .now) (c .before .before .before .before .before .before .before .before .before .before .args .e .keyAt) (c .before .before .before .before .before .before .before .before .before .before .args .e .keyLength))) ∙ f .lookupAgrees ∙ sym (c .before .slot-key .ensures))
+returns-2 c =
+    let p = c .before .before .before .before .before in let xxh64 = p .xxh64 in
+    let start = p .before .before .before .before .before in
+    λ f. c .if2 .taken (c .before .before .lookup-of-hash .ensures .0 ∙ ap (lookupOfHash (start .args .z .settings))
+    (xxh64 .ensures ∙ ap hash (key-cut (start .args .img .now) (start .args .e .keyAt) (start .args .e .keyLength))) ∙ f .lookupAgrees ∙ sym
+    (c .before .slot-key .ensures))
 
 returns-3 : tie.Need-returns-3
 unfolding segmentOf lookupKey
-returns-3 c = record { segmentAgrees = sym (c .before .before .before .before .segment-of-hash .ensures .0 ∙ ap (segmentOfHash (c .before .before .before .before .before .before .before .before .before .before .args .z .settings)) (c .before .before .before .before .before .xxh64 .ensures ∙ ap hash (key-cut (c .before .before .before .before .before .before .before .before .before .before .args .img .now) (c .before .before .before .before .before .before .before .before .before .before .args .e .keyAt) (c .before .before .before .before .before .before .before .before .before .before .args .e .keyLength)))) ∙ c .before .before .before .if1 .left; lookupAgrees = sym (c .before .before .lookup-of-hash .ensures .0 ∙ ap (lookupOfHash (c .before .before .before .before .before .before .before .before .before .before .args .z .settings)) (c .before .before .before .before .before .xxh64 .ensures ∙ ap hash (key-cut (c .before .before .before .before .before .before .before .before .before .before .args .img .now) (c .before .before .before .before .before .before .before .before .before .before .args .e .keyAt) (c .before .before .before .before .before .before .before .before .before .before .args .e .keyLength)))) ∙ c .if2 .left ∙ c .before .slot-key .ensures }
+returns-3 c =
+    let p = c .before .before .before in let if1 = p .if1 in
+    let p = p .before in let segment-of-hash = p .segment-of-hash in
+    let p = p .before in let xxh64 = p .xxh64 in
+    let start = p .before .before .before .before .before in
+    record {
+      segmentAgrees = sym (segment-of-hash .ensures .0 ∙ ap (segmentOfHash (start .args .z .settings))
+          (xxh64 .ensures ∙ ap hash (key-cut (start .args .img .now) (start .args .e .keyAt) (start .args .e .keyLength)))) ∙ if1 .left;
+      lookupAgrees = sym (c .before .before .lookup-of-hash .ensures .0 ∙ ap (lookupOfHash (start .args .z .settings))
+          (xxh64 .ensures ∙ ap hash (key-cut (start .args .img .now) (start .args .e .keyAt) (start .args .e .keyLength))))
+          ∙ c .if2 .left ∙ c .before .slot-key .ensures;
+    }
 
 pub hash-agrees-spec : {M : Type 1} → statement M
 hash-agrees-spec =

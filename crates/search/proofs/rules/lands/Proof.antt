@@ -19,57 +19,124 @@ use Rattle.layout.proofs.read.slot.Reads as slot-reads
 use Rattle.search.proofs.comes_to.Reads as comes-to-reads
 use Rattle.search.proofs.rules.ends_at.Reads as ends-at-reads
 
--- src/rules.rt:133:54
 slot-requires : tie.Need-slot-requires
 slot-requires c κs = search needs
 
--- src/rules.rt:133:9
 slot-key-requires : tie.Need-slot-key-requires
 slot-key-requires c κs = search needs
 
--- src/rules.rt:134:9
 ends-at-requires : tie.Need-ends-at-requires
-ends-at-requires c κs = (c .before .before .before .pre .0, c .before .before .before .pre .3, c .before .before .before .pre .4, c .before .before .before .pre .5, c .before .before .before .pre .6, c .slot-key .ensures ∙ ap (slotKey (c .before .before .before .args .z .settings)) (c .before .slot .ensures) ∙ sym (c .before .before .before .pre .6 .hashed .lookupAgrees))
+ends-at-requires c κs =
+    let start = c .before .before .before in (
+      start .pre .0,
+      start .pre .3,
+      start .pre .4,
+      start .pre .5,
+      start .pre .6,
+      c .slot-key .ensures ∙ ap
+          (slotKey (start .args .z .settings)) (c .before .slot .ensures) ∙ sym (start .pre .6 .hashed .lookupAgrees),
+    )
 
--- src/rules.rt:135:9
 returns : tie.Need-returns
-returns c = λ q. decided-false (c .before .ends-at .result) (c .before .ends-at .ensures) (not-true _ (c .if1 .taken)) (lands-in (c .before .before .before .before .before .args .z) (c .before .before .before .before .before .args .img .now) (c .before .before .before .before .before .args .t) (c .before .before .before .before .before .args .j) q)
+returns c =
+    let p = c .before in let ends-at = p .ends-at in
+    let start = p .before .before .before .before in
+    λ q. decided-false (ends-at .result) (ends-at .ensures) (not-true _ (c .if1 .taken))
+    (lands-in (start .args .z) (start .args .img .now) (start .args .t) (start .args .j) q)
 
--- src/rules.rt:137:13
 add-if2 : tie.Need-add-if2
 add-if2 c = search needs
 
--- src/rules.rt:138:9
 returns-2 : tie.Need-returns-2
-returns-2 c = lands-first (c .before .before .before .before .before .before .args .z) (c .before .before .before .before .before .before .args .img .now) (c .before .before .before .before .before .before .args .t) (c .before .before .before .before .before .before .args .j) (decided-true {P = seekIn (c .before .before .before .before .before .before .args .z) (c .before .before .before .before .before .before .args .img .now) (keyAt (c .before .before .before .before .before .before .args .z) (c .before .before .before .before .before .before .args .img .now) (c .before .before .before .before .before .before .args .t) (c .before .before .before .before .before .before .args .j)) (c .before .before .before .before .before .before .args .t) ≡ c .before .before .before .before .before .before .args .j} (c .before .before .ends-at .result) (c .before .before .ends-at .ensures) (not-false _ (c .before .if1 .left))) (c .before .before .before .before .before .before .args .s) (c .before .before .before .before .before .before .pre .6) (c .before .before .before .before .before .before .pre .2) (c .before .before .before .before .before .before .pre .1) (c .before .before .before .before .before .before .pre .3) (c .before .before .before .before .before .before .pre .5) (c .if2 .taken)
+returns-2 c =
+    let p = c .before .before in let ends-at = p .ends-at in
+    let start = p .before .before .before .before in
+    lands-first (start .args .z) (start .args .img .now) (start .args .t) (start .args .j)
+    (decided-true
+    {P = seekIn (start .args .z) (start .args .img .now) (keyAt (start .args .z) (start .args .img .now) (start .args .t) (start .args .j))
+    (start .args .t)
+    ≡ start .args .j}
+    (ends-at .result) (ends-at .ensures) (not-false _ (c .before .if1 .left)))
+    (start .args .s) (start .pre .6) (start .pre .2) (start .pre .1) (start .pre .3) (start .pre .5) (c .if2 .taken)
 
--- src/rules.rt:140:9
 entry-at-requires : tie.Need-entry-at-requires
 entry-at-requires c κs = search needs
 
--- src/rules.rt:142:14
 add-to : tie.Need-add-to
-add-to c = omega (arith, key-room (c .before .before .before .before .before .before .before .before .args .z) (c .before .before .before .before .before .before .before .before .args .img .now) (c .before .before .before .before .before .before .before .before .args .t) (c .before .before .before .before .before .before .before .before .args .j) (c .before .before .before .before .before .before .before .before .pre .0) (c .before .before .before .before .before .before .before .before .pre .3) (c .before .before .before .before .before .before .before .before .pre .6 .whole), ap (λ (x : Entry). x .keyAt) (c .before .entry-at .ensures), ap (λ (x : Entry). x .keyLength) (c .before .entry-at .ensures), c .before .before .before .before .before .before .before .before .pre .0 .small)
+add-to c =
+    let p = c .before in let entry-at = p .entry-at in
+    let start = p .before .before .before .before .before .before .before in
+    omega (
+      arith,
+      key-room (start .args .z) (start .args .img .now) (start .args .t) (start .args .j) (start .pre .0) (start .pre .3)
+          (start .pre .6 .whole),
+      ap (λ (x : Entry). x .keyAt) (entry-at .ensures),
+      ap (λ (x : Entry). x .keyLength) (entry-at .ensures),
+      start .pre .0 .small,
+    )
 
--- src/rules.rt:143:29
 sub-comes-to : tie.Need-sub-comes-to
 sub-comes-to c = search needs
 
--- src/rules.rt:143:29
 part-comes-to-start : tie.Need-part-comes-to-start
 part-comes-to-start c = search needs
 
--- src/rules.rt:143:29
 part-comes-to-end : tie.Need-part-comes-to-end
-part-comes-to-end c = omega (arith, key-room (c .before .before .before .before .before .before .before .before .args .z) (c .before .before .before .before .before .before .before .before .args .img .now) (c .before .before .before .before .before .before .before .before .args .t) (c .before .before .before .before .before .before .before .before .args .j) (c .before .before .before .before .before .before .before .before .pre .0) (c .before .before .before .before .before .before .before .before .pre .3) (c .before .before .before .before .before .before .before .before .pre .6 .whole), ap (λ (x : Entry). x .keyAt) (c .before .entry-at .ensures), ap (λ (x : Entry). x .keyLength) (c .before .entry-at .ensures))
+part-comes-to-end c =
+    let p = c .before in let entry-at = p .entry-at in
+    let start = p .before .before .before .before .before .before .before in
+    omega (
+      arith,
+      key-room (start .args .z) (start .args .img .now) (start .args .t) (start .args .j) (start .pre .0) (start .pre .3)
+          (start .pre .6 .whole),
+      ap (λ (x : Entry). x .keyAt) (entry-at .ensures),
+      ap (λ (x : Entry). x .keyLength) (entry-at .ensures),
+    )
 
--- src/rules.rt:143:5
 comes-to-requires : tie.Need-comes-to-requires
-comes-to-requires c κs = (c .before .before .before .before .before .before .before .before .before .pre .0, c .before .before .before .before .before .before .before .before .before .pre .1, c .before .before .before .before .before .before .before .before .before .pre .2, c .before .before .before .before .before .before .before .before .before .pre .3, sym (ap (segmentOf (c .before .before .before .before .before .before .before .before .before .args .z .settings)) (key-part (c .before .before .before .before .before .before .before .before .before .args .z) (c .before .before .before .before .before .before .before .before .before .args .img .now) (c .before .before .before .before .before .before .before .before .before .args .t) (c .before .before .before .before .before .before .before .before .before .args .j) (c .before .before .entry-at .result) (c .before .before .entry-at .ensures)) ∙ c .before .before .before .before .before .before .before .before .before .pre .6 .hashed .segmentAgrees), c .before .before .before .before .before .before .slot-key .ensures ∙ ap (slotKey (c .before .before .before .before .before .before .before .before .before .args .z .settings)) (c .before .before .before .before .before .before .before .slot .ensures) ∙ sym (ap (lookupKey (c .before .before .before .before .before .before .before .before .before .args .z .settings)) (key-part (c .before .before .before .before .before .before .before .before .before .args .z) (c .before .before .before .before .before .before .before .before .before .args .img .now) (c .before .before .before .before .before .before .before .before .before .args .t) (c .before .before .before .before .before .before .before .before .before .args .j) (c .before .before .entry-at .result) (c .before .before .entry-at .ensures)) ∙ c .before .before .before .before .before .before .before .before .before .pre .6 .hashed .lookupAgrees), lands-full (c .before .before .before .before .before .before .before .before .before .args .z) (c .before .before .before .before .before .before .before .before .before .args .img .now) (c .before .before .before .before .before .before .before .before .before .args .t) (c .before .before .before .before .before .before .before .before .before .args .j) (decided-true {P = seekIn (c .before .before .before .before .before .before .before .before .before .args .z) (c .before .before .before .before .before .before .before .before .before .args .img .now) (keyAt (c .before .before .before .before .before .before .before .before .before .args .z) (c .before .before .before .before .before .before .before .before .before .args .img .now) (c .before .before .before .before .before .before .before .before .before .args .t) (c .before .before .before .before .before .before .before .before .before .args .j)) (c .before .before .before .before .before .before .before .before .before .args .t) ≡ c .before .before .before .before .before .before .before .before .before .args .j} (c .before .before .before .before .before .ends-at .result) (c .before .before .before .before .before .ends-at .ensures) (not-false _ (c .before .before .before .before .if1 .left))) _ (key-part (c .before .before .before .before .before .before .before .before .before .args .z) (c .before .before .before .before .before .before .before .before .before .args .img .now) (c .before .before .before .before .before .before .before .before .before .args .t) (c .before .before .before .before .before .before .before .before .before .args .j) (c .before .before .entry-at .result) (c .before .before .entry-at .ensures)) (c .before .before .before .before .before .before .before .before .before .pre .5))
+comes-to-requires c κs =
+    let p = c .before .before in let entry-at = p .entry-at in
+    let p = p .before .before in let if1 = p .if1 in
+    let p = p .before in let ends-at = p .ends-at in
+    let p = p .before in let slot-key = p .slot-key in
+    let p = p .before in let slot = p .slot in
+    let start = p .before .before in (
+      start .pre .0,
+      start .pre .1,
+      start .pre .2,
+      start .pre .3,
+      sym
+          (ap (segmentOf (start .args .z .settings))
+          (key-part (start .args .z) (start .args .img .now) (start .args .t) (start .args .j) (entry-at .result) (entry-at .ensures))
+          ∙ start .pre .6 .hashed .segmentAgrees),
+      slot-key .ensures ∙ ap (slotKey (start .args .z .settings)) (slot .ensures) ∙ sym
+          (ap (lookupKey (start .args .z .settings))
+          (key-part (start .args .z) (start .args .img .now) (start .args .t) (start .args .j) (entry-at .result) (entry-at .ensures))
+          ∙ start .pre .6 .hashed .lookupAgrees),
+      lands-full (start .args .z) (start .args .img .now) (start .args .t) (start .args .j)
+          (decided-true
+          {P = seekIn (start .args .z) (start .args .img .now)
+          (keyAt (start .args .z) (start .args .img .now) (start .args .t) (start .args .j)) (start .args .t)
+          ≡ start .args .j}
+          (ends-at .result) (ends-at .ensures) (not-false _ (if1 .left)))
+          _ (key-part (start .args .z) (start .args .img .now) (start .args .t) (start .args .j) (entry-at .result) (entry-at .ensures))
+          (start .pre .5),
+    )
 
--- src/rules.rt:128:1
 returns-3 : tie.Need-returns-3
-returns-3 c = lands-decided (c .before .before .before .before .before .before .before .before .before .before .args .z) (c .before .before .before .before .before .before .before .before .before .before .args .img .now) (c .before .before .before .before .before .before .before .before .before .before .args .t) (c .before .before .before .before .before .before .before .before .before .before .args .j) (decided-true {P = seekIn (c .before .before .before .before .before .before .before .before .before .before .args .z) (c .before .before .before .before .before .before .before .before .before .before .args .img .now) (keyAt (c .before .before .before .before .before .before .before .before .before .before .args .z) (c .before .before .before .before .before .before .before .before .before .before .args .img .now) (c .before .before .before .before .before .before .before .before .before .before .args .t) (c .before .before .before .before .before .before .before .before .before .before .args .j)) (c .before .before .before .before .before .before .before .before .before .before .args .t) ≡ c .before .before .before .before .before .before .before .before .before .before .args .j} (c .before .before .before .before .before .before .ends-at .result) (c .before .before .before .before .before .before .ends-at .ensures) (not-false _ (c .before .before .before .before .before .if1 .left))) _ (key-part (c .before .before .before .before .before .before .before .before .before .before .args .z) (c .before .before .before .before .before .before .before .before .before .before .args .img .now) (c .before .before .before .before .before .before .before .before .before .before .args .t) (c .before .before .before .before .before .before .before .before .before .before .args .j) (c .before .before .before .entry-at .result) (c .before .before .before .entry-at .ensures)) (c .comes-to .result) (c .comes-to .ensures)
+returns-3 c =
+    let p = c .before .before .before in let entry-at = p .entry-at in
+    let p = p .before .before in let if1 = p .if1 in
+    let p = p .before in let ends-at = p .ends-at in
+    let start = p .before .before .before .before in
+    lands-decided (start .args .z) (start .args .img .now) (start .args .t) (start .args .j)
+    (decided-true
+    {P = seekIn (start .args .z) (start .args .img .now) (keyAt (start .args .z) (start .args .img .now) (start .args .t) (start .args .j))
+    (start .args .t)
+    ≡ start .args .j}
+    (ends-at .result) (ends-at .ensures) (not-false _ (if1 .left)))
+    _ (key-part (start .args .z) (start .args .img .now) (start .args .t) (start .args .j) (entry-at .result) (entry-at .ensures))
+    (c .comes-to .result) (c .comes-to .ensures)
 
 pub lands-spec : {M : Type 1} → statement M
 lands-spec =

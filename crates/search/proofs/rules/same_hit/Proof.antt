@@ -12,7 +12,16 @@ entry-at-requires : tie.Need-entry-at-requires
 entry-at-requires c κs = search needs
 
 add-to : tie.Need-add-to
-add-to c = omega (arith, (key-room (c .before .before .before .args .z) (c .before .before .before .args .img .now) (c .before .before .before .args .t) (c .before .before .before .args .j) (c .before .before .before .pre .0) (c .before .before .before .pre .1) (c .before .before .before .pre .3 .whole)), ap (λ (x : Entry). x .keyAt) (c .before .entry-at .ensures), ap (λ (x : Entry). x .keyLength) (c .before .entry-at .ensures), c .before .before .before .pre .0 .small)
+add-to c =
+    let p = c .before in let entry-at = p .entry-at in
+    let start = p .before .before in
+    omega (
+      arith,
+      (key-room (start .args .z) (start .args .img .now) (start .args .t) (start .args .j) (start .pre .0) (start .pre .1) (start .pre .3 .whole)),
+      ap (λ (x : Entry). x .keyAt) (entry-at .ensures),
+      ap (λ (x : Entry). x .keyLength) (entry-at .ensures),
+      start .pre .0 .small,
+    )
 
 sub-hits : tie.Need-sub-hits
 sub-hits c = search needs
@@ -21,13 +30,32 @@ part-hits-start : tie.Need-part-hits-start
 part-hits-start c = search needs
 
 part-hits-end : tie.Need-part-hits-end
-part-hits-end c = omega (arith, (key-room (c .before .before .before .args .z) (c .before .before .before .args .img .now) (c .before .before .before .args .t) (c .before .before .before .args .j) (c .before .before .before .pre .0) (c .before .before .before .pre .1) (c .before .before .before .pre .3 .whole)), ap (λ (x : Entry). x .keyAt) (c .before .entry-at .ensures), ap (λ (x : Entry). x .keyLength) (c .before .entry-at .ensures))
+part-hits-end c =
+    let p = c .before in let entry-at = p .entry-at in
+    let start = p .before .before in
+    omega (
+      arith,
+      (key-room (start .args .z) (start .args .img .now) (start .args .t) (start .args .j) (start .pre .0) (start .pre .1) (start .pre .3 .whole)),
+      ap (λ (x : Entry). x .keyAt) (entry-at .ensures),
+      ap (λ (x : Entry). x .keyLength) (entry-at .ensures),
+    )
 
 hits-requires : tie.Need-hits-requires
-hits-requires c κs = (c .before .before .before .before .pre .0, c .before .before .before .before .pre .1, c .before .before .before .before .pre .4 ∙ ap (lookupKey (c .before .before .before .before .args .z .settings)) (sym (key-part (c .before .before .before .before .args .z) (c .before .before .before .before .args .img .now) (c .before .before .before .before .args .t) (c .before .before .before .before .args .j) (c .before .before .entry-at .result) (c .before .before .entry-at .ensures))))
+hits-requires c κs =
+    let p = c .before .before in let entry-at = p .entry-at in
+    let start = p .before .before in (
+      start .pre .0,
+      start .pre .1,
+      start .pre .4 ∙ ap (lookupKey (start .args .z .settings))
+          (sym (key-part (start .args .z) (start .args .img .now) (start .args .t) (start .args .j) (entry-at .result) (entry-at .ensures))),
+    )
 
 returns : tie.Need-returns
-returns c = c .hits .ensures ∙ ap (λ k. hits (c .before .before .before .before .before .args .z) (c .before .before .before .before .before .args .img .now) k (c .before .before .before .before .before .args .t) (c .before .before .before .before .before .args .v)) (key-part (c .before .before .before .before .before .args .z) (c .before .before .before .before .before .args .img .now) (c .before .before .before .before .before .args .t) (c .before .before .before .before .before .args .j) (c .before .before .before .entry-at .result) (c .before .before .before .entry-at .ensures))
+returns c =
+    let p = c .before .before .before in let entry-at = p .entry-at in
+    let start = p .before .before in
+    c .hits .ensures ∙ ap (λ k. hits (start .args .z) (start .args .img .now) k (start .args .t) (start .args .v))
+    (key-part (start .args .z) (start .args .img .now) (start .args .t) (start .args .j) (entry-at .result) (entry-at .ensures))
 
 pub same-hit-spec : {M : Type 1} → statement M
 same-hit-spec =

@@ -9,33 +9,57 @@ use Rattle.search.proofs.rules.slot_fits.Lts as lts
 use Rattle.search.proofs.rules.entry_fits.Reads as entry-fits-reads
 use Rattle.search.proofs.rules.lands.Reads as lands-reads
 
--- src/rules.rt:156:9
 entry-fits-requires : tie.Need-entry-fits-requires
 entry-fits-requires c κs = search needs
 
--- src/rules.rt:157:20
 enum-known-found : tie.Need-enum-known-found
 enum-known-found c = search needs
 
--- src/rules.rt:158:9
 enum-told : tie.Need-enum-told
 enum-told c = search needs
 
--- src/rules.rt:158:9
 returns : tie.Need-returns
-returns c = entry-broken (c .before .before .before .before .args .z) (c .before .before .before .before .args .img .now) (c .before .before .before .before .args .s) (c .before .before .before .before .args .t) (c .before .before .before .before .args .j) (c .before .before .entry-fits .result) (c .before .before .entry-fits .ensures) (c .enum-told .given .1)
+returns c =
+    let p = c .before .before in let entry-fits = p .entry-fits in
+    let start = p .before .before in
+    entry-broken (start .args .z) (start .args .img .now) (start .args .s) (start .args .t) (start .args .j) (entry-fits .result)
+    (entry-fits .ensures) (c .enum-told .given .1)
 
--- src/rules.rt:160:9
 lands-requires : tie.Need-lands-requires
-lands-requires c κs = (c .before .before .before .before .before .pre .0, c .before .before .before .before .before .pre .1, c .before .before .before .before .before .pre .2, c .before .before .before .before .before .pre .3, c .before .before .before .before .before .pre .4, c .before .before .before .before .before .pre .5, entry-told (c .before .before .before .before .before .args .z) (c .before .before .before .before .before .args .img .now) (c .before .before .before .before .before .args .s) (c .before .before .before .before .before .args .t) (c .before .before .before .before .before .args .j) (c .before .before .before .entry-fits .result) (c .before .before .before .entry-fits .ensures) (c .before .found .given .0 .0) (c .before .found .given .0 .1 .0) (c .before .found .given .1) .0)
+lands-requires c κs =
+    let p = c .before in let found = p .found in
+    let p = p .before .before in let entry-fits = p .entry-fits in
+    let start = p .before .before in (
+      start .pre .0,
+      start .pre .1,
+      start .pre .2,
+      start .pre .3,
+      start .pre .4,
+      start .pre .5,
+      entry-told (start .args .z)
+          (start .args .img .now) (start .args .s) (start .args .t) (start .args .j) (entry-fits .result) (entry-fits .ensures)
+          (found .given .0 .0) (found .given .0 .1 .0) (found .given .1) .0,
+    )
 
--- src/rules.rt:161:9
 returns-2 : tie.Need-returns-2
-returns-2 c = λ h. decided-false (c .before .lands .result) (c .before .lands .ensures) (not-true _ (c .if1 .taken)) (h .1)
+returns-2 c =
+    let p = c .before in let lands = p .lands in
+    λ h. decided-false (lands .result) (lands .ensures) (not-true _ (c .if1 .taken)) (h .1)
 
--- src/rules.rt:152:1
 returns-3 : tie.Need-returns-3
-returns-3 c = ((entry-told (c .before .before .before .before .before .before .before .args .z) (c .before .before .before .before .before .before .before .args .img .now) (c .before .before .before .before .before .before .before .args .s) (c .before .before .before .before .before .before .before .args .t) (c .before .before .before .before .before .before .before .args .j) (c .before .before .before .before .before .entry-fits .result) (c .before .before .before .before .before .entry-fits .ensures) (c .before .before .before .found .given .0 .0) (c .before .before .before .found .given .0 .1 .0) (c .before .before .before .found .given .1) .0, decided-true (c .before .lands .result) (c .before .lands .ensures) (not-false _ (c .if1 .left))), entry-told (c .before .before .before .before .before .before .before .args .z) (c .before .before .before .before .before .before .before .args .img .now) (c .before .before .before .before .before .before .before .args .s) (c .before .before .before .before .before .before .before .args .t) (c .before .before .before .before .before .before .before .args .j) (c .before .before .before .before .before .entry-fits .result) (c .before .before .before .before .before .entry-fits .ensures) (c .before .before .before .found .given .0 .0) (c .before .before .before .found .given .0 .1 .0) (c .before .before .before .found .given .1) .1)
+returns-3 c =
+    let p = c .before in let lands = p .lands in
+    let p = p .before .before in let found = p .found in
+    let p = p .before .before in let entry-fits = p .entry-fits in
+    let start = p .before .before in (
+      (
+        entry-told (start .args .z) (start .args .img .now) (start .args .s) (start .args .t) (start .args .j) (entry-fits .result)
+            (entry-fits .ensures) (found .given .0 .0) (found .given .0 .1 .0) (found .given .1) .0,
+        decided-true (lands .result) (lands .ensures) (not-false _ (c .if1 .left)),
+      ),
+      entry-told (start .args .z) (start .args .img .now) (start .args .s) (start .args .t) (start .args .j) (entry-fits .result)
+          (entry-fits .ensures) (found .given .0 .0) (found .given .0 .1 .0) (found .given .1) .1,
+    )
 
 pub slot-fits-spec : {M : Type 1} → statement M
 slot-fits-spec =

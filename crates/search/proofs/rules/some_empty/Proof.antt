@@ -1,6 +1,6 @@
 use mathlib.Core.Path.{sym, _∙_}
 use borrow.Author.Needs.{needs}
-use Rattle.lists.proofs.Upto.{Upto, upto-starts, upto-broken, upto-turns, upto-ends}
+use Rattle.lists.proofs.Upto.{Upto, upto-starts, upto-turns, upto-ends}
 use Prim.Native.Nat.{_-_}
 use mathlib.Core.Logic.{_≢_}
 use Rattle.entries.specs.Live.{slotAt}
@@ -14,13 +14,17 @@ abbrev μ-loop : tie.MeasureT-loop
 μ-loop z img t j₀ j = z .settings .slots - j
 
 loop-holds : tie.Need-loop-holds Inv-loop μ-loop
-loop-holds c = upto-starts (λ i. slotAt (c .before .args .z) (c .before .args .img .now) (c .before .args .t) i ≢ 0) (c .before .args .z .settings .slots)
+loop-holds c =
+    let start = c .before in
+    upto-starts (λ i. slotAt (start .args .z) (start .args .img .now) (start .args .t) i ≢ 0) (start .args .z .settings .slots)
 
 slot-requires : tie.Need-slot-requires Inv-loop μ-loop
 slot-requires c κs = search needs
 
 returns : tie.Need-returns Inv-loop μ-loop
-returns c = (c .before .before .before .before .loop .j, (c .before .before .if1 .taken, sym (c .before .slot .ensures) ∙ c .if2 .taken))
+returns c =
+    let p = c .before .before .before .before in let the-loop = p .loop in
+    (the-loop .j, (c .before .before .if1 .taken, sym (c .before .slot .ensures) ∙ c .if2 .taken))
 
 add-j : tie.Need-add-j Inv-loop μ-loop
 add-j c = search needs
@@ -29,10 +33,17 @@ loop-less : tie.Need-loop-less Inv-loop μ-loop
 loop-less c = search needs
 
 loop-again : tie.Need-loop-again Inv-loop μ-loop
-loop-again c = upto-turns (λ i. slotAt (c .before .before .before .before .before .before .args .z) (c .before .before .before .before .before .before .args .img .now) (c .before .before .before .before .before .before .args .t) i ≢ 0) (c .before .before .before .before .before .before .args .z .settings .slots) (c .before .before .before .before .loop .inv) (c .before .before .if1 .taken) (λ q. c .if2 .left (c .before .slot .ensures ∙ q))
+loop-again c =
+    let p = c .before .before .before .before in let the-loop = p .loop in
+    let start = p .before .before in
+    upto-turns (λ i. slotAt (start .args .z) (start .args .img .now) (start .args .t) i ≢ 0) (start .args .z .settings .slots)
+    (the-loop .inv) (c .before .before .if1 .taken) (λ q. c .if2 .left (c .before .slot .ensures ∙ q))
 
 returns-2 : tie.Need-returns-2 Inv-loop μ-loop
-returns-2 c = λ e. upto-ends (λ i. slotAt (c .before .before .before .before .args .z) (c .before .before .before .before .args .img .now) (c .before .before .before .before .args .t) i ≢ 0) (c .before .before .before .before .args .z .settings .slots) (c .before .before .loop .inv) (c .if1 .left) (e .0) (e .1 .0) (e .1 .1)
+returns-2 c =
+    let start = c .before .before .before .before in
+    λ e. upto-ends (λ i. slotAt (start .args .z) (start .args .img .now) (start .args .t) i ≢ 0) (start .args .z .settings .slots)
+    (c .before .before .loop .inv) (c .if1 .left) (e .0) (e .1 .0) (e .1 .1)
 
 pub some-empty-spec : {M : Type 1} → statement M
 some-empty-spec =

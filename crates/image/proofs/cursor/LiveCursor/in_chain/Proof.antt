@@ -12,7 +12,9 @@ abbrev μ-loop : tie.MeasureT-loop
 μ-loop z img c₀ c = c .left
 
 loop-holds : tie.Need-loop-holds Inv-loop μ-loop
-loop-holds c = (moves-starts (c .before .args .z) (c .before .args .img .now) (c .before .pre .1), refl)
+loop-holds c =
+    let start = c .before in
+    (moves-starts (start .args .z) (start .args .img .now) (start .pre .1), refl)
 
 returns : tie.Need-returns Inv-loop μ-loop
 returns c =
@@ -68,7 +70,9 @@ loop-again c =
     (moves-more z img (moves-more z img (inv .0) (tier .moves)) next, tier .segmentIs ∙ inv .1)
 
 returns-3 : tie.Need-returns-3 Inv-loop μ-loop
-returns-3 c = (c .before .before .loop .inv .0, c .before .before .loop .inv .1, λ some. absurd (some (c .if1 .left)))
+returns-3 c =
+    let p = c .before .before in let the-loop = p .loop in
+    (the-loop .inv .0, the-loop .inv .1, λ some. absurd (some (c .if1 .left)))
 
 pub in-chain-spec : {M : Type 1} → statement M
 in-chain-spec =

@@ -12,7 +12,9 @@ abbrev μ-loop : tie.MeasureT-loop
 μ-loop z img c₀ c = z .settings .slots - c .slot
 
 loop-holds : tie.Need-loop-holds Inv-loop μ-loop
-loop-holds c = tier-starts (c .before .args .z) (c .before .args .img .now) (c .before .pre .1)
+loop-holds c =
+    let start = c .before in
+    tier-starts (start .args .z) (start .args .img .now) (start .pre .1)
 
 slot-requires : tie.Need-slot-requires Inv-loop μ-loop
 slot-requires c κs =
@@ -23,7 +25,9 @@ slot-requires c κs =
     (start .pre .0, tier-met z img (start .pre .2) (start .pre .3) inv, omega arith)
 
 add-c : tie.Need-add-c Inv-loop μ-loop
-add-c c = omega (arith, c .before .before .before .before .before .before .before .before .pre .0 .valid .slots)
+add-c c =
+    let start = c .before .before .before .before .before .before .before .before in
+    omega (arith, start .pre .0 .valid .slots)
 
 loop-less : tie.Need-loop-less Inv-loop μ-loop
 loop-less c = omega arith
@@ -51,7 +55,9 @@ sub-c : tie.Need-sub-c Inv-loop μ-loop
 sub-c c = omega arith
 
 add-c-2 : tie.Need-add-c-2 Inv-loop μ-loop
-add-c-2 c = omega (arith, c .before .before .before .before .before .before .before .before .before .before .before .pre .0 .valid .slots)
+add-c-2 c =
+    let start = c .before .before .before .before .before .before .before .before .before .before .before in
+    omega (arith, start .pre .0 .valid .slots)
 
 loop-less-2 : tie.Need-loop-less-2 Inv-loop μ-loop
 loop-less-2 c = omega arith
@@ -67,7 +73,9 @@ loop-again-2 c =
     tier-over z img (start .pre .2) (start .pre .3) inv (omega arith) slot (c .before .before .before .before .if2 .left) (c .before .before .if3 .left)
 
 returns-2 : tie.Need-returns-2 Inv-loop μ-loop
-returns-2 c = (c .before .before .before .loop .inv, λ h. absurd (omega arith))
+returns-2 c =
+    let p = c .before .before .before in let the-loop = p .loop in
+    (the-loop .inv, λ h. absurd (omega arith))
 
 pub in-tier-spec : {M : Type 1} → statement M
 in-tier-spec =

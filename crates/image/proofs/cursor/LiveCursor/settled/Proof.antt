@@ -15,7 +15,9 @@ abbrev μ-loop : tie.MeasureT-loop
 μ-loop z img c₀ c = z .settings .segments - c .segment
 
 loop-holds : tie.Need-loop-holds Inv-loop μ-loop
-loop-holds c = moves-starts (c .before .args .z) (c .before .args .img .now) (c .before .pre .2)
+loop-holds c =
+    let start = c .before in
+    moves-starts (start .args .z) (start .args .img .now) (start .pre .2)
 
 in-chain-requires : tie.Need-in-chain-requires Inv-loop μ-loop
 in-chain-requires c κs = (c .before .before .pre .0, c .loop .inv .inChain)
@@ -47,12 +49,14 @@ add-start : tie.Need-add-start Inv-loop μ-loop
 add-start c = omega arith
 
 start-requires : tie.Need-start-requires Inv-loop μ-loop
-start-requires c κs = (framed-largest (c .before .before .before .before .before .before .before .before .before .pre .0), omega arith)
+start-requires c κs =
+    let start = c .before .before .before .before .before .before .before .before .before in
+    (framed-largest (start .pre .0), omega arith)
 
 loop-less : tie.Need-loop-less Inv-loop μ-loop
 loop-less c =
-    let chain = c .before .before .before .before .before .before .before .in-chain .ensures in
-    omega (arith, ap (λ (d : LiveCursor). d .segment) (c .start .ensures), chain .1)
+    let p = c .before .before .before .before .before .before .before in let in-chain = p .in-chain in
+    let chain = in-chain .ensures in omega (arith, ap (λ (d : LiveCursor). d .segment) (c .start .ensures), chain .1)
 
 loop-again : tie.Need-loop-again Inv-loop μ-loop
 loop-again c =

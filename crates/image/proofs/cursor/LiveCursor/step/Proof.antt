@@ -22,7 +22,10 @@ add-t7 c =
     omega (arith, p .settled .ensures .1 .onFull (c .before .if1 .left) .slotIn, p .before .before .pre .0 .valid .slots)
 
 entry-requires : tie.Need-entry-requires
-entry-requires c κs = (c .before .before .before .before .before .pre .0, c .before .before .before .settled .ensures .1 .onFull (c .before .if1 .left))
+entry-requires c κs =
+    let p = c .before .before .before in let settled = p .settled in
+    let start = p .before .before in
+    (start .pre .0, settled .ensures .1 .onFull (c .before .if1 .left))
 
 returns-2 : tie.Need-returns-2
 returns-2 c =

@@ -16,7 +16,9 @@ slice-aggregate-put-word : tie.Need-slice-aggregate-put-word
 slice-aggregate-put-word c = search needs
 
 put-word-requires : tie.Need-put-word-requires
-put-word-requires c κs = let d = c .before .decimal .ensures in omega (arith, fewest-short _ _ (c .before .before .before .fits .n .fits) (d .1 .0))
+put-word-requires c κs =
+    let start = c .before .before .before in
+    let d = c .before .decimal .ensures in omega (arith, fewest-short _ _ (start .fits .n .fits) (d .1 .0))
 
 returns : tie.Need-returns
 returns c =
