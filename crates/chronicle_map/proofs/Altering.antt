@@ -16,15 +16,16 @@ use Rattle.words.proofs.Bytes.{same-true, same-refl, same-false}
 use Rattle.settings.specs.declared.Settings.{Settings}
 use Rattle.settings.specs.Block.{settingsOf}
 use Rattle.layout.specs.declared.Shape.{Shape}
+use Rattle.layout.proofs.Frames.{shape-settings}
 use Rattle.entries.specs.declared.Live.{Live}
 use Rattle.entries.specs.Keys.{KeyFits}
 use Rattle.entries.specs.Stored.{keyOf}
 use Rattle.entries.specs.Live.{live}
-use Rattle.upkeep.specs.Sound.{Pair, pairOf, pairsOf, SoundImage}
+use Rattle.upkeep.specs.Sound.{Pair, pairOf, pairsOf, SoundImage, ImageFits}
 use Rattle.image.specs.declared.Counts.{Counts}
 use Rattle.image.specs.declared.Examined.the-variants.{Ready}
 use Rattle.image.specs.Check.{countsOf, examine, verdictOf, check}
-use Rattle.image.proofs.Ready.{Sound, sound-ready, ready-sound}
+use Rattle.image.proofs.Ready.{Fitting, fitting-ready, ready-fitting}
 use Rattle.edit.specs.Edits.{find}
 use Rattle.edit.proofs.Finding.{found-only}
 use Rattle.edit.proofs.Replacing.{live-key-fits}
@@ -36,7 +37,7 @@ use Rattle.chronicle_map.specs.Calls.{fromFind, lookedUp, lookup, answer
 use Rattle.chronicle_map.specs.History.{Said, stores, removes, says, leaves, row10, Map, hasKey, mapOf, mapGet, mapDrop, mapSet, mapRemove, mapStore, unlessValue, unlessKey, unless, recall}
 use Rattle.chronicle_map.specs.Demands.{Accepted, shape, Fits, LooksUp, Alters, Demand2}
 use Rattle.chronicle_map.proofs.Weights.{Weigh}
-use Rattle.chronicle_map.proofs.Accepting.{Holds, holds-shape, holds-accepted, accepted-ready, accepted-holds}
+use Rattle.chronicle_map.proofs.Accepting.{Holds, holds-accepted, accepted-ready, accepted-holds}
 use Rattle.chronicle_map.proofs.Mapping.{map-found, map-none}
 use Rattle.chronicle_map.proofs.Steps.{asked-holds, Step, step}
 
@@ -46,30 +47,15 @@ pub fits-accepted : (block img : List ℕ) → Fits block img → Accepted block
 unfolding check verdictOf
 fits-accepted block img f = (
   countsOf (shape block img) img,
-  ap verdictOf (sound-ready block img (shape block img) (record {
-    blockFits = f .blockFits;
-    valid = f .fieldsFit;
-    shape = refl;
-    frameFits = f .frameFits;
-    chainsFit = f .chainsFit;
-    entriesFit = f .entriesFit;
-    chunksFit = f .chunksFit;
-  })),
+  ap verdictOf (fitting-ready block img (shape block img) (record { blockFits = f .blockFits; shape = refl; image = f .imageFits })),
 )
 
 pub accepted-fits : (block img : List ℕ) → Accepted block img → Fits block img
 unfolding check
 accepted-fits block img (c, e) =
     let r : (z : Shape) × (d : Counts) × (examine block img ≡ Ready z d) = accepted-ready block img (examine block img) c e in
-    let s : Sound block img (r .0) = ready-sound block img (r .0) (r .1) (r .2) in
-    record {
-      blockFits = s .blockFits;
-      fieldsFit = s .valid;
-      frameFits = rw (s .shape) at (s .frameFits);
-      chainsFit = rw (s .shape) at (s .chainsFit);
-      entriesFit = rw (s .shape) at (s .entriesFit);
-      chunksFit = rw (s .shape) at (s .chunksFit);
-    }
+    let f : Fitting block img (r .0) = ready-fitting block img (r .0) (r .1) (r .2) in
+    record { blockFits = f .blockFits; imageFits = subst (λ (z : Shape). ImageFits z img) (f .shape) (f .image) }
 
 -- ---- maps
 
@@ -149,7 +135,7 @@ module _ (block img : List ℕ) (b : Bytes img) (a : Accepted block img) where
   abbrev z : Shape
   z = shape block img
 
-  h : Holds block img z
+  h : Holds block img
   h = accepted-holds block img b a
 
   -- a lookup
@@ -162,7 +148,7 @@ module _ (block img : List ℕ) (b : Bytes img) (a : Accepted block img) where
 
   lookup-is : (key : List ℕ) → KeyFits (z .settings) (length key) → lookup block img key ≡ fromFind (find z img key)
   unfolding lookup
-  lookup-is key k = ap (lookedUp img key) (asked-holds block img z h (aKey key)) ∙ looks key (givenKeyFits? (z .settings) (aKey key)) k
+  lookup-is key k = ap (lookedUp img key) (asked-holds block img h (aKey key)) ∙ looks key (givenKeyFits? (z .settings) (aKey key)) k
 
   looks-up : (key : List ℕ) → LooksUp block img key
   unfolding fromFind
@@ -175,7 +161,7 @@ module _ (block img : List ℕ) (b : Bytes img) (a : Accepted block img) where
           lookup-is key fits ∙ ap fromFind (found-only z img (h .sound) key e m k)
 
       not-there : KeyFits (settingsOf block) (length key) → mapGet (mapOf block img) key ≡ none → lookup block img key ≡ looked.Absent
-      not-there k g = lookup-is key (subst (λ (st : Settings). KeyFits st (length key)) (sym (h .settingsAre)) k) ∙ ap fromFind (by-find (find z img key) refl)
+      not-there k g = lookup-is key (subst (λ (st : Settings). KeyFits st (length key)) (sym (shape-settings (settingsOf block) img)) k) ∙ ap fromFind (by-find (find z img key) refl)
         where
           by-find : (o : Option Live) → find z img key ≡ o → o ≡ none
           by-find none f = refl
@@ -185,37 +171,37 @@ module _ (block img : List ℕ) (b : Bytes img) (a : Accepted block img) where
 
   -- an edit whose image agrees with the map that has the key altered
 
-  alters : (img′ key : List ℕ) (m : Map) (p : Option Pair) → Holds block img′ z → Weigh (pairsOf z img′) m → mapGet m key ≡ p
+  alters : (img′ key : List ℕ) (m : Map) (p : Option Pair) → Holds block img′ → Weigh (mapOf block img′) m → mapGet m key ≡ p
       → ((other : List ℕ) → other ≢ key → mapGet m other ≡ mapGet (pairsOf z img) other) → Alters block img img′ key p
   alters img′ key m p h′ w own others =
       record {
-        accepted = holds-accepted block img′ z h′;
+        accepted = holds-accepted block img′ h′;
         altered = reads key ∙ own;
         others = λ other n. reads other ∙ others other n;
       }
     where
       reads : (k : List ℕ) → mapGet (mapOf block img′) k ≡ mapGet m k
-      reads k = ap (λ (x : Shape). mapGet (pairsOf x img′) k) (holds-shape block img′ z h′) ∙ same-get z img′ (h′ .sound) m w k
+      reads k = same-get (shape block img′) img′ (h′ .sound) m w k
 
   stored : (key value : List ℕ) → Bytes key → Bytes value → answerNumber (store block img key value .answer) ≡ 0
       → Alters block img (store block img key value .image) key (some (record { key = key; value = value }))
   unfolding leaves says recall unless
   stored key value kb vb e =
-      let s : Step block img z h (pairsOf z img) (λ F. refl) (stores key value) = step block img z h (pairsOf z img) (λ F. refl) (stores key value) (kb, vb) in
-      let n : recall (z .settings) (pairsOf z img) (stores key value) (row10 block img (stores key value)) .said .number ≡ 0 =
+      let s : Step block img h (pairsOf z img) (λ F. refl) (stores key value) = step block img h (pairsOf z img) (λ F. refl) (stores key value) (kb, vb) in
+      let n : recall (settingsOf block) (pairsOf z img) (stores key value) (row10 block img (stores key value)) .said .number ≡ 0 =
       ap (λ (x : Said). x .number) (sym (s .said)) ∙ e in
-      let m : recall (z .settings) (pairsOf z img) (stores key value) (row10 block img (stores key value)) .map ≡ mapSet (pairsOf z img) key value =
-      store-zero (z .settings) (pairsOf z img) key value (row10 block img (stores key value)) (givenKeyFits? (z .settings) (anEntry key value)) n in
+      let m : recall (settingsOf block) (pairsOf z img) (stores key value) (row10 block img (stores key value)) .map ≡ mapSet (pairsOf z img) key value =
+      store-zero (settingsOf block) (pairsOf z img) key value (row10 block img (stores key value)) (givenKeyFits? (settingsOf block) (anEntry key value)) n in
       alters (store block img key value .image) key (mapSet (pairsOf z img) key value) (some (record { key = key; value = value })) (s .holds)
       (rw m at (s .weighs)) (set-own (pairsOf z img) key value) (set-other (pairsOf z img) key value)
 
   removed : (key : List ℕ) → Bytes key → answerNumber (remove block img key .answer) ≡ 0 → Alters block img (remove block img key .image) key none
   unfolding leaves says recall unless
   removed key kb e =
-      let s : Step block img z h (pairsOf z img) (λ F. refl) (removes key) = step block img z h (pairsOf z img) (λ F. refl) (removes key) kb in
-      let n : recall (z .settings) (pairsOf z img) (removes key) false .said .number ≡ 0 = ap (λ (x : Said). x .number) (sym (s .said)) ∙ e in
-      let m : recall (z .settings) (pairsOf z img) (removes key) false .map ≡ mapDrop (pairsOf z img) key =
-      remove-zero (z .settings) (pairsOf z img) key (givenKeyFits? (z .settings) (aKey key)) n in
+      let s : Step block img h (pairsOf z img) (λ F. refl) (removes key) = step block img h (pairsOf z img) (λ F. refl) (removes key) kb in
+      let n : recall (settingsOf block) (pairsOf z img) (removes key) false .said .number ≡ 0 = ap (λ (x : Said). x .number) (sym (s .said)) ∙ e in
+      let m : recall (settingsOf block) (pairsOf z img) (removes key) false .map ≡ mapDrop (pairsOf z img) key =
+      remove-zero (settingsOf block) (pairsOf z img) key (givenKeyFits? (settingsOf block) (aKey key)) n in
       alters (remove block img key .image) key (mapDrop (pairsOf z img) key) none (s .holds) (rw m at (s .weighs))
       (drop-own (pairsOf z img) key) (drop-other (pairsOf z img) key)
 

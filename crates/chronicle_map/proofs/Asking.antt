@@ -10,6 +10,7 @@ use Rattle.layout.specs.declared.Shape.{Shape}
 use Rattle.entries.specs.Keys.{KeyFits}
 use Rattle.entries.specs.Stored.{chunksFor}
 use Rattle.upkeep.specs.Sound.{SoundImage}
+use Rattle.edit.specs.Replaced.{Storable}
 use Rattle.image.specs.declared.Counts.{Counts}
 use Rattle.image.specs.declared.Stage.{Stage}
 use Rattle.image.specs.declared.Stage.the-variants.{Key, Value}
@@ -18,7 +19,7 @@ use Rattle.image.specs.declared.Examined.the-variants.{Ready, Refused}
 use Rattle.image.specs.Check.{examine}
 use Rattle.image.proofs.Ready.{ready-framed}
 use Rattle.chronicle_map.specs.Asked.{Given, nothing, aKey, anEntry, ValueFits, GivenKeyFits, givenKeyFits?, GivenValueFits, givenValueFits?, afterValue, afterKey, afterExamined, asked}
-use Rattle.chronicle_map.proofs.Accepting.{ready-holds}
+use Rattle.chronicle_map.proofs.Accepting.{ready-sound}
 
 never : {P : Type 0} {s : Stage} {z : Shape} {c : Counts} → Refused s ≡ Ready z c → P
 never e = absurd (let q : _≡_ {A = ℕ} 0 1 = cc in omega arith)
@@ -109,7 +110,7 @@ module _ (block img key : List ℕ) where
     key-valid = ready-framed block img z c (key-ready .ready) .valid
 
     pub key-sound : Bytes img → SoundImage z img
-    key-sound b = ready-holds block img z c b (key-ready .ready) .sound
+    key-sound b = ready-sound block img z c b (key-ready .ready)
 
 -- ---- a key and a record are given
 
@@ -177,5 +178,11 @@ module _ (block img key value : List ℕ) where
     unfolding asked
     entry-ready = entry-ready-by z c (examine block img) refl (sym ex ∙ e)
 
-    pub entry-sound : Bytes img → SoundImage z img
-    entry-sound b = ready-holds block img z c b (entry-ready .ready) .sound
+    pub entry-storable : Bytes img → Storable z img key value
+    entry-storable b =
+        record {
+          sound = ready-sound block img z c b (entry-ready .ready);
+          keyFits = entry-ready .keyFits;
+          valueLong = entry-ready .valueFits .0;
+          notTooMany = entry-ready .valueFits .1;
+        }

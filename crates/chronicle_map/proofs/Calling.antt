@@ -19,7 +19,7 @@ use Rattle.search.specs.declared.Found.{Found}
 use Rattle.search.specs.declared.Found.the-variants.{At, Absent}
 use Rattle.search.specs.Search.{search}
 use Rattle.upkeep.specs.Sound.{SoundImage}
-use Rattle.edit.specs.Edits.{find, withoutEntry, without, noRoom}
+use Rattle.edit.specs.Edits.{find, removedEntry, removeImage, noRoom}
 use Rattle.edit.specs.Replaced.{isThere, Stores}
 use Rattle.edit.proofs.Finding.{find-live, search-found, search-none}
 use Rattle.edit.proofs.Replacing.{live-value}
@@ -64,7 +64,7 @@ found-by z img key sound none f at n e = absurd (let q : _≡_ {A = ℕ} 0 1 = c
 found-by z img key sound (some x) f at n e =
     let a : x .entry .valueAt ≡ at = cc in
     let b : x .entry .valueLength ≡ n = cc in
-    (omega (arith, live-value z img sound x (live-in z img x (find-live z img key x f .0))), sound .frame .imageLength .1)
+    (omega (arith, live-value z img sound x (live-in z img x (find-live z img key x f .0))), sound .fits .frame .imageLength .1)
 
 within-by : (block img key : List ℕ) → Bytes img → (x : Examined) → x ≡ asked block img (aKey key) → (at n : ℕ)
     → lookedUp img key x ≡ located.Found at n → (at + n ≤ length img) × (length img ≤ largest)
@@ -106,24 +106,24 @@ module _ (block : List ℕ) (img : RefT (List ℕ)) (key : List ℕ) (r : Locate
 -- ---- removal
 
 module _ (z : Shape) (img key : List ℕ) where
-  done-by : (o : Option Live) {img′ : List ℕ} → isThere o ≡ true → img′ ≡ without z img key
+  done-by : (o : Option Live) {img′ : List ℕ} → isThere o ≡ true → img′ ≡ removeImage z img key
       → record { answer = answer.Done; image = img′ } ≡ removeFound z img key o
   unfolding removeFound
   done-by none t e = absurd (let q : _≡_ {A = ℕ} 0 1 = cc in omega arith)
   done-by (some x) t e = λ i. record { answer = answer.Done; image = e i }
 
-  absent-by : (o : Option Live) {img′ : List ℕ} → find z img key ≡ o → isThere o ≡ false → img′ ≡ without z img key
+  absent-by : (o : Option Live) {img′ : List ℕ} → find z img key ≡ o → isThere o ≡ false → img′ ≡ removeImage z img key
       → record { answer = answer.Absent; image = img′ } ≡ removeFound z img key o
-  unfolding removeFound without withoutEntry
-  absent-by none f t e = let g : without z img key ≡ img = ap (withoutEntry z img) f in λ i. record { answer = answer.Absent; image = (e ∙ g) i }
+  unfolding removeFound removeImage removedEntry
+  absent-by none f t e = let g : removeImage z img key ≡ img = ap (removedEntry z img) f in λ i. record { answer = answer.Absent; image = (e ∙ g) i }
   absent-by (some x) f t e = absurd (let q : _≡_ {A = ℕ} 0 1 = cc in omega arith)
 
-  module _ (r : Bool) (er : r ≡ isThere (find z img key)) {img′ : List ℕ} (e : img′ ≡ without z img key) where
-    pub taken-done : r ≡ true → record { answer = answer.Done; image = img′ } ≡ removeFound z img key (find z img key)
-    taken-done t = done-by (find z img key) (sym er ∙ t) e
+  module _ (r : Bool) (er : r ≡ isThere (find z img key)) {img′ : List ℕ} (e : img′ ≡ removeImage z img key) where
+    pub removed-done : r ≡ true → record { answer = answer.Done; image = img′ } ≡ removeFound z img key (find z img key)
+    removed-done t = done-by (find z img key) (sym er ∙ t) e
 
-    pub taken-absent : r ≡ false → record { answer = answer.Absent; image = img′ } ≡ removeFound z img key (find z img key)
-    taken-absent t = absent-by (find z img key) refl (sym er ∙ t) e
+    pub removed-absent : r ≡ false → record { answer = answer.Absent; image = img′ } ≡ removeFound z img key (find z img key)
+    removed-absent t = absent-by (find z img key) refl (sym er ∙ t) e
 
 module _ (block img key : List ℕ) {x : Examined} (ex : x ≡ asked block img (aKey key)) where
   pub remove-refused : (s : Stage) → x ≡ Refused s → record { answer = answer.Refused s; image = img } ≡ remove block img key
@@ -138,15 +138,15 @@ module _ (block img key : List ℕ) {x : Examined} (ex : x ≡ asked block img (
 -- ---- store
 
 module _ (z : Shape) (img key value : List ℕ) (r : Bool) {img′ : List ℕ} (e : Stores z img key value r img′) where
-  pub given-done : r ≡ true → record { answer = answer.Done; image = img′ } ≡ storeUnless z img key value (noRoom z img key value)
+  pub stored-done : r ≡ true → record { answer = answer.Done; image = img′ } ≡ storeUnless z img key value (noRoom z img key value)
   unfolding storeUnless
-  given-done t =
+  stored-done t =
       let s : Stores z img key value true img′ = subst (λ (b : Bool). Stores z img key value b img′) t e in
       rw (s .0) (λ i. record { answer = answer.Done; image = s .1 i })
 
-  pub given-full : r ≡ false → record { answer = answer.Full; image = img′ } ≡ storeUnless z img key value (noRoom z img key value)
+  pub stored-full : r ≡ false → record { answer = answer.Full; image = img′ } ≡ storeUnless z img key value (noRoom z img key value)
   unfolding storeUnless
-  given-full t =
+  stored-full t =
       let s : Stores z img key value false img′ = subst (λ (b : Bool). Stores z img key value b img′) t e in
       rw (s .0) (λ i. record { answer = answer.Full; image = s .1 i })
 

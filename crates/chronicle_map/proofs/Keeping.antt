@@ -1,7 +1,7 @@
 -- Demand 3: any list of calls on an accepted image.
 use Prim.Native.Nat.{ℕ, _≤_, _<_}
 use mathlib.Core.List.{List, [], _∷_, List·Memᴰ}
-use mathlib.Core.Path.{_≡_, refl, ap, sym, _∙_, subst}
+use mathlib.Core.Path.{_≡_, refl, ap, sym, _∙_}
 use mathlib.Core.Logic.{_≢_, _⊎_, inl, inr, ⊎-elim}
 use native.Mathlib.Omega.{arith}
 use lib.ListN.{length, length-map}
@@ -13,6 +13,7 @@ use Rattle.settings.specs.declared.Settings.{Settings}
 use Rattle.settings.specs.Block.{settingsOf}
 use Rattle.layout.specs.declared.Shape.{Shape}
 use Rattle.layout.specs.Places.{mark}
+use Rattle.layout.proofs.Frames.{shape-settings}
 use Rattle.layout.proofs.Marks.{mark-lt}
 use Rattle.chains.specs.Chains.{chain, chained}
 use Rattle.entries.specs.Stored.{chunksFor}
@@ -28,48 +29,51 @@ use Rattle.image.specs.Check.{countsOf, check}
 use Rattle.chronicle_map.specs.History.{Call, leaves, row10, run, answers, told, Map, hasKey, mapOf, recall, mapAnswers, mapAfter}
 use Rattle.chronicle_map.specs.Demands.{Accepted, ByteCalls, shape, coversIn, Keeps}
 use Rattle.chronicle_map.proofs.Weights.{Weigh, weigh-in, weigh-length}
-use Rattle.chronicle_map.proofs.Accepting.{Holds, holds-shape, holds-accepted, holds-counts, accepted-holds}
+use Rattle.chronicle_map.proofs.Accepting.{Holds, holds-accepted, holds-counts, accepted-holds}
 use Rattle.chronicle_map.proofs.Steps.{Step, step}
 use Rattle.chronicle_map.proofs.Covered.{covered-live}
 
 -- ---- the whole list, by its first call
 
-module _ (block : List ℕ) (z : Shape) where
-  pub same-answers : (calls : List Call) (img : List ℕ) (m : Map) → Holds block img z → Weigh (pairsOf z img) m → ByteCalls calls
-      → answers block img calls ≡ mapAnswers (z .settings) m calls (told block img calls)
+module _ (block : List ℕ) where
+  pub same-answers : (calls : List Call) (img : List ℕ) (m : Map) → Holds block img → Weigh (mapOf block img) m → ByteCalls calls
+      → answers block img calls ≡ mapAnswers (settingsOf block) m calls (told block img calls)
   unfolding answers told mapAnswers
   same-answers [] img m h w b = refl
   same-answers (c ∷ cs) img m h w b =
-      let s : Step block img z h m w c = step block img z h m w c (b .0) in
+      let s : Step block img h m w c = step block img h m w c (b .0) in
       let rest : answers block (leaves block img c) cs
-      ≡ mapAnswers (z .settings) (recall (z .settings) m c (row10 block img c) .map) cs (told block (leaves block img c) cs) =
-      same-answers cs (leaves block img c) (recall (z .settings) m c (row10 block img c) .map) (s .holds) (s .weighs) (b .1) in
+      ≡ mapAnswers (settingsOf block) (recall (settingsOf block) m c (row10 block img c) .map) cs (told block (leaves block img c) cs) =
+      same-answers cs (leaves block img c) (recall (settingsOf block) m c (row10 block img c) .map) (s .holds) (s .weighs) (b .1) in
       λ i. s .said i ∷ rest i
 
   pub record After (img : List ℕ) (m : Map) : Type 0 where
-    pub holds : Holds block img z
-    pub weighs : Weigh (pairsOf z img) m
+    pub holds : Holds block img
+    pub weighs : Weigh (mapOf block img) m
 
-  pub after : (calls : List Call) (img : List ℕ) (m : Map) → Holds block img z → Weigh (pairsOf z img) m → ByteCalls calls
-      → After (run block img calls) (mapAfter (z .settings) m calls (told block img calls))
+  pub after : (calls : List Call) (img : List ℕ) (m : Map) → Holds block img → Weigh (mapOf block img) m → ByteCalls calls
+      → After (run block img calls) (mapAfter (settingsOf block) m calls (told block img calls))
   unfolding run told mapAfter
   after [] img m h w b = record { holds = h; weighs = w }
   after (c ∷ cs) img m h w b =
-      let s : Step block img z h m w c = step block img z h m w c (b .0) in
-      after cs (leaves block img c) (recall (z .settings) m c (row10 block img c) .map) (s .holds) (s .weighs) (b .1)
+      let s : Step block img h m w c = step block img h m w c (b .0) in
+      after cs (leaves block img c) (recall (settingsOf block) m c (row10 block img c) .map) (s .holds) (s .weighs) (b .1)
 
 -- ---- what an image and a map say that agree
 
-module _ (block img : List ℕ) (z : Shape) (m : Map) (h : Holds block img z) (w : Weigh (pairsOf z img) m) where
+module _ (block img : List ℕ) (m : Map) (h : Holds block img) (w : Weigh (mapOf block img) m) where
+  abbrev z : Shape
+  z = shape block img
+
   open Shape z using (settings)
   open Settings settings using (segments, chunks)
 
   covered : (t i : ℕ) → List·Memᴰ t (chained z img) → i < chunks
       → ((mark z img t i ≡ 1) × (howMany (live z img) (coversIn t i) ≡ 1)) ⊎ ((mark z img t i ≡ 0) × (howMany (live z img) (coversIn t i) ≡ 0))
   covered t i mt hi =
-      let c : (s : ℕ) × (s < segments) × List·Memᴰ t (chain z img s) = chained-in z img (h .sound .chains) t mt in
+      let c : (s : ℕ) × (s < segments) × List·Memᴰ t (chain z img s) = chained-in z img (h .sound .fits .chains) t mt in
       let e : howMany (live z img) (coversIn t i) ≡ mark z img t i =
-      covered-live z img (h .sound .chains) (c .0) t i (c .1) (c .2) ∙ h .sound .chunks .tiersFit (c .0) (c .1) t (c .2) .marks i hi in
+      covered-live z img (h .sound .fits .chains) (c .0) t i (c .1) (c .2) ∙ h .sound .fits .chunks .tiersFit (c .0) (c .1) t (c .2) .marks i hi in
       ⊎-elim
       (λ (q : mark z img t i ≡ 0). inr (q, e ∙ q))
       (λ (q : mark z img t i ≢ 0). let one : mark z img t i ≡ 1 = omega (arith, mark-lt z img t i) in inl (one, e ∙ one))
@@ -87,50 +91,41 @@ module _ (block img : List ℕ) (z : Shape) (m : Map) (h : Holds block img z) (w
       → c .chunks ≡ total m (λ p. chunksFor settings (length (p .key)) (length (p .value)))
   unfolding countsOf
   marked c e =
-      ap (λ (x : Counts). x .chunks) (holds-counts block img z h c e) ∙ marked-sum z img (h .sound)
+      ap (λ (x : Counts). x .chunks) (holds-counts block img h c e) ∙ marked-sum z img (h .sound)
       ∙ w (λ p. chunksFor settings (length (p .key)) (length (p .value)))
 
 -- ---- demand 3
 
 pub history : (block img : List ℕ) → Bytes img → Accepted block img → (calls : List Call) → ByteCalls calls → Keeps block img calls
-history block img b a calls bytes = kept (shape block img) refl (accepted-holds block img b a)
+history block img b a calls bytes =
+    record {
+      sameAnswers = same-answers block calls img (mapOf block img) h (λ F. refl) bytes;
+      accepted = holds-accepted block end h′;
+      inMap = weigh-in (mapOf block end) m w′;
+      inImage = weigh-in m (mapOf block end) (λ F. sym (w′ F));
+      asMany = as-many block end m h′ w′;
+      keysOnce = keys block end m h′ w′;
+      chunksCovered = λ t i mt hi. covered block end m h′ w′ t i mt (rw (shape-settings (settingsOf block) end) hi);
+      tiersOnce = extra-once (shape block end) end (h′ .sound .fits .chains);
+      markedChunks = λ c e.
+          marked block end m h′ w′ c e
+          ∙ ap (λ (x : Settings). total m (λ p. chunksFor x (length (p .key)) (length (p .value)))) (shape-settings (settingsOf block) end);
+    }
   where
     m : Map
     m = mapAfter (settingsOf block) (mapOf block img) calls (told block img calls)
 
-    -- with the shape after the calls
-    fields : answers block img calls ≡ mapAnswers (settingsOf block) (mapOf block img) calls (told block img calls)
-        → (z : Shape) → shape block (run block img calls) ≡ z → z .settings ≡ settingsOf block
-        → Holds block (run block img calls) z → Weigh (pairsOf z (run block img calls)) m → Keeps block img calls
-    fields same z ez es h w =
-        let h′ : Holds block (run block img calls) (shape block (run block img calls)) = subst (Holds block (run block img calls)) (sym ez) h in
-        let w′ : Weigh (pairsOf (shape block (run block img calls)) (run block img calls)) m =
-        subst (λ (x : Shape). Weigh (pairsOf x (run block img calls)) m) (sym ez) w in
-        let st : shape block (run block img calls) .settings ≡ settingsOf block = h′ .settingsAre in
-        record {
-          sameAnswers = same;
-          accepted = holds-accepted block (run block img calls) (shape block (run block img calls)) h′;
-          inMap = weigh-in (mapOf block (run block img calls)) m w′;
-          inImage = weigh-in m (mapOf block (run block img calls)) (λ F. sym (w′ F));
-          asMany = as-many block (run block img calls) (shape block (run block img calls)) m h′ w′;
-          keysOnce = keys block (run block img calls) (shape block (run block img calls)) m h′ w′;
-          chunksCovered = λ t i mt hi. covered block (run block img calls) (shape block (run block img calls)) m h′ w′ t i mt (rw st hi);
-          tiersOnce = extra-once (shape block (run block img calls)) (run block img calls) (h′ .sound .chains);
-          markedChunks = λ c e.
-              marked block (run block img calls) (shape block (run block img calls)) m h′ w′ c e
-              ∙ ap (λ (x : Settings). total m (λ p. chunksFor x (length (p .key)) (length (p .value)))) st;
-        }
+    end : List ℕ
+    end = run block img calls
 
-    kept : (z : Shape) → shape block img ≡ z → Holds block img z → Keeps block img calls
-    kept z e h =
-        let w : Weigh (pairsOf z img) (mapOf block img) = λ F. ap (λ (x : Shape). total (pairsOf x img) F) (sym e) in
-        let same : answers block img calls ≡ mapAnswers (z .settings) (mapOf block img) calls (told block img calls) =
-        same-answers block z calls img (mapOf block img) h w bytes in
-        let r : After block z (run block img calls) (mapAfter (z .settings) (mapOf block img) calls (told block img calls)) =
-        after block z calls img (mapOf block img) h w bytes in
-        let st : z .settings ≡ settingsOf block = h .settingsAre in
-        let same′ : answers block img calls ≡ mapAnswers (settingsOf block) (mapOf block img) calls (told block img calls) =
-        same ∙ ap (λ (x : Settings). mapAnswers x (mapOf block img) calls (told block img calls)) st in
-        let w′ : Weigh (pairsOf z (run block img calls)) m =
-        λ F. r .weighs F ∙ ap (λ (x : Settings). total (mapAfter x (mapOf block img) calls (told block img calls)) F) st in
-        fields same′ z (holds-shape block (run block img calls) z (r .holds)) st (r .holds) w′
+    h : Holds block img
+    h = accepted-holds block img b a
+
+    r : After block end m
+    r = after block calls img (mapOf block img) h (λ F. refl) bytes
+
+    h′ : Holds block end
+    h′ = r .holds
+
+    w′ : Weigh (mapOf block end) m
+    w′ = r .weighs

@@ -66,7 +66,7 @@ module _ (block img : List ℕ) (b : Bytes img) (a : Accepted block img) where
   abbrev z : Shape
   z = shape block img
 
-  h : Holds block img z
+  h : Holds block img
   h = accepted-holds block img b a
 
   -- a lookup gives the record that the map has under the key, or says that there is none
@@ -95,4 +95,4 @@ module _ (block img : List ℕ) (b : Bytes img) (a : Accepted block img) where
   -- a store leaves bytes
   pub store-bytes : (key value : List ℕ) → Bytes key → Bytes value → Bytes (store block img key value .image)
   unfolding leaves
-  store-bytes key value kb vb = step block img z h (pairsOf z img) (λ F. refl) (stores key value) (kb, vb) .holds .sound .bytes
+  store-bytes key value kb vb = step block img h (pairsOf z img) (λ F. refl) (stores key value) (kb, vb) .holds .sound .bytes

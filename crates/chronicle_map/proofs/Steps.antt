@@ -1,7 +1,7 @@
 -- One call on an accepted image: it answers what the map answers, and leaves an image and a map that agree again.
 use Prim.Native.Nat.{ℕ, _+_}
 use mathlib.Core.List.{List, []}
-use mathlib.Core.Path.{_≡_, refl, ap, sym, _∙_}
+use mathlib.Core.Path.{_≡_, refl, ap, sym, _∙_, subst}
 use mathlib.Core.Bool.{Bool, true, false, not}
 use mathlib.Core.Option.{Option, none, some}
 use native.Mathlib.Omega.{arith}
@@ -14,28 +14,28 @@ use Rattle.entries.specs.declared.Live.{Live}
 use Rattle.upkeep.specs.Sound.{Pair, pairOf, pairsOf, SoundImage}
 use Rattle.image.specs.declared.Examined.{Examined}
 use Rattle.image.specs.Check.{countsOf}
-use Rattle.edit.specs.Edits.{find, noRoom}
+use Rattle.edit.specs.Edits.{find, noRoom, storeImage}
+use Rattle.edit.specs.Replaced.{Storable}
 use Rattle.chronicle_map.specs.Asked.{Given, aKey, anEntry, GivenKeyFits, givenKeyFits?, GivenValueFits, givenValueFits?, afterValue, afterKey, afterExamined, asked}
 use Rattle.chronicle_map.specs.Calls.{numberOf, fromFind, lookedUp, lookup, lookupNumbers, recordAt, recordLength, recordBytes, Edited, answerNumber, removeFound, removing, remove, storeUnless, storing, store}
-use Rattle.chronicle_map.specs.History.{Call, looksUp, stores, removes, Said, says, leaves, row10, Map, hasKey, mapGet, mapDrop, Recalled, mapLookup, mapRemove, mapStore, unlessValue, unlessKey, unless, recall}
-use Rattle.edit.proofs.Without.{without-sound, without-pairs}
+use Rattle.chronicle_map.specs.History.{Call, looksUp, stores, removes, Said, says, leaves, row10, Map, hasKey, mapOf, mapGet, mapSet, mapDrop, Recalled, mapLookup, mapRemove, mapStore, unlessValue, unlessKey, unless, recall}
+use Rattle.edit.proofs.Without.{remove-sound, remove-pairs}
 use Rattle.edit.proofs.Storing.{store-sound, store-pairs}
-use Rattle.chronicle_map.specs.Demands.{ByteCall}
+use Rattle.chronicle_map.specs.Demands.{ByteCall, shape}
 use Rattle.chronicle_map.proofs.Weights.{Weigh, weigh-those}
-use Rattle.chronicle_map.proofs.Accepting.{Holds, holds-shape, holds-ready}
+use Rattle.chronicle_map.proofs.Accepting.{Holds, holds-ready, holds-again, map-again}
 use Rattle.chronicle_map.proofs.Mapping.{map-found, map-none}
 
 -- what the refusals are, once the image is accepted
-pub asked-holds : (block img : List ℕ) (z : Shape) → Holds block img z → (g : Given)
-    → asked block img g ≡ afterKey z (countsOf z img) g (givenKeyFits? (z .settings) g)
+pub asked-holds : (block img : List ℕ) → Holds block img → (g : Given)
+    → asked block img g ≡ afterKey (shape block img) (countsOf (shape block img) img) g (givenKeyFits? (shape block img .settings) g)
 unfolding asked afterExamined
-asked-holds block img z h g = ap (afterExamined g) (holds-ready block img z h)
+asked-holds block img h g = ap (afterExamined g) (holds-ready block img h)
 
--- a sound image under the same block
-pub holds-again : {block img img′ : List ℕ} {z : Shape} → Holds block img z → SoundImage z img′ → Holds block img′ z
-holds-again h s = record { blockFits = h .blockFits; settingsAre = h .settingsAre; sound = s }
+module _ (block img : List ℕ) (h : Holds block img) (m : Map) (w : Weigh (mapOf block img) m) where
+  abbrev z : Shape
+  z = shape block img
 
-module _ (block img : List ℕ) (z : Shape) (h : Holds block img z) (m : Map) (w : Weigh (pairsOf z img) m) where
   -- ---- lookup
 
   abbrev saysOf : Examined → List ℕ → Said
@@ -67,8 +67,8 @@ module _ (block img : List ℕ) (z : Shape) (h : Holds block img z) (m : Map) (w
 
   pub record Agrees (x : Edited) (r : Recalled) : Type 0 where
     pub said : record { number = answerNumber (x .answer); bytes = [] } ≡ r .said
-    pub holds : Holds block (x .image) z
-    pub weighs : Weigh (pairsOf z (x .image)) (r .map)
+    pub holds : Holds block (x .image)
+    pub weighs : Weigh (mapOf block (x .image)) (r .map)
 
   removed : (key : List ℕ) (o : Option Live) (q : Option Pair) → find z img key ≡ o → mapGet m key ≡ q → Agrees (removeFound z img key o) (mapRemove m key q)
   unfolding removeFound mapRemove mapDrop hasKey
@@ -82,8 +82,10 @@ module _ (block img : List ℕ) (z : Shape) (h : Holds block img z) (m : Map) (w
   removed key (some e) (some p) f g =
       record {
         said = refl;
-        holds = holds-again h (without-sound z img (h .sound) key);
-        weighs = λ F. without-pairs z img (h .sound) key F ∙ weigh-those (λ p. not (same (p .key) key)) (pairsOf z img) m w F;
+        holds = holds-again h (remove-sound z img (h .sound) key);
+        weighs =
+            subst (λ (l : List Pair). Weigh l (mapDrop m key)) (map-again h (remove-sound z img (h .sound) key))
+            (λ F. remove-pairs z img (h .sound) key F ∙ weigh-those (λ p. not (same (p .key) key)) (pairsOf z img) m w F);
       }
 
   remove-agrees : (key : List ℕ) (d : Dec (GivenKeyFits (z .settings) (aKey key)))
@@ -98,11 +100,16 @@ module _ (block img : List ℕ) (z : Shape) (h : Holds block img z) (m : Map) (w
     unfolding storeUnless mapStore mapDrop hasKey total
     stored k v true e = record { said = refl; holds = h; weighs = w }
     stored k v false e =
+        let s : Storable z img key value = record { sound = h .sound; keyFits = k; valueLong = v .0; notTooMany = v .1 } in
+        let after : SoundImage z (storeImage z img key value) = store-sound z img key value s keyBytes valueBytes e in
         record {
           said = refl;
-          holds = holds-again h (store-sound z img (h .sound) key value keyBytes valueBytes k (v .0) (v .1) e);
-          weighs = λ F. store-pairs z img (h .sound) key value keyBytes valueBytes k (v .0) (v .1) e F
-              ∙ ap (λ (n : ℕ). F (record { key = key; value = value }) + n) (weigh-those (λ p. not (same (p .key) key)) (pairsOf z img) m w F);
+          holds = holds-again h after;
+          weighs =
+              subst (λ (l : List Pair). Weigh l (mapSet m key value)) (map-again h after)
+              (λ F.
+              store-pairs z img key value s keyBytes valueBytes e F
+              ∙ ap (λ (n : ℕ). F (record { key = key; value = value }) + n) (weigh-those (λ p. not (same (p .key) key)) (pairsOf z img) m w F));
         }
 
     store-value : GivenKeyFits (z .settings) (anEntry key value) → (d : Dec (GivenValueFits (z .settings) (anEntry key value))) → (b : Bool)
@@ -123,25 +130,24 @@ module _ (block img : List ℕ) (z : Shape) (h : Holds block img z) (m : Map) (w
   -- ---- any call
 
   pub record Step (c : Call) : Type 0 where
-    pub said : says block img c ≡ recall (z .settings) m c (row10 block img c) .said
-    pub holds : Holds block (leaves block img c) z
-    pub weighs : Weigh (pairsOf z (leaves block img c)) (recall (z .settings) m c (row10 block img c) .map)
+    pub said : says block img c ≡ recall (settingsOf block) m c (row10 block img c) .said
+    pub holds : Holds block (leaves block img c)
+    pub weighs : Weigh (mapOf block (leaves block img c)) (recall (settingsOf block) m c (row10 block img c) .map)
 
   pub step : (c : Call) → ByteCall c → Step c
-  unfolding says leaves row10 recall unless lookup remove store
+  unfolding says leaves row10 recall unless lookup remove store shapeOf
   step (looksUp key) b =
       record {
-        said = rw (asked-holds block img z h (aKey key)) (lookup-said key (givenKeyFits? (z .settings) (aKey key)));
+        said = rw (asked-holds block img h (aKey key)) (lookup-said key (givenKeyFits? (z .settings) (aKey key)));
         holds = h;
         weighs = rw (lookup-map key (givenKeyFits? (z .settings) (aKey key))) w;
       }
   step (removes key) b =
       let a : Agrees (remove block img key) (unless (z .settings) (aKey key) m (mapRemove m key (mapGet m key))) =
-      rw (asked-holds block img z h (aKey key)) (remove-agrees key (givenKeyFits? (z .settings) (aKey key))) in
+      rw (asked-holds block img h (aKey key)) (remove-agrees key (givenKeyFits? (z .settings) (aKey key))) in
       record { said = a .said; holds = a .holds; weighs = a .weighs }
   step (stores key value) b =
       let a : Agrees (store block img key value) (unless (z .settings) (anEntry key value) m (mapStore m key value (noRoom z img key value))) =
-      rw (asked-holds block img z h (anEntry key value))
+      rw (asked-holds block img h (anEntry key value))
       (store-agrees key value (b .0) (b .1) (givenKeyFits? (z .settings) (anEntry key value)) (noRoom z img key value) refl) in
-      let e : shapeOf (settingsOf block) img ≡ z = holds-shape block img z h in
-      record { said = rw e (a .said); holds = a .holds; weighs = rw e (a .weighs) }
+      record { said = a .said; holds = a .holds; weighs = a .weighs }

@@ -12,7 +12,7 @@ use Rattle.layout.specs.declared.Shape.{Shape}
 use Rattle.image.specs.declared.Examined.{Examined}
 use Rattle.image.specs.declared.Examined.the-variants.{Ready, Refused}
 use Rattle.image.specs.Check.{stageNumber}
-use Rattle.edit.specs.Edits.{find, without, noRoom, storeImage}
+use Rattle.edit.specs.Edits.{find, removeImage, noRoom, storeImage}
 use Rattle.chronicle_map.specs.declared.Located.{Located}
 use Rattle.chronicle_map.specs.declared.Located.the-variants as looked
 use Rattle.chronicle_map.specs.declared.Answer.{Answer}
@@ -81,7 +81,7 @@ answerNumber (answer.Refused s) = stageNumber s
 -- where the key is, its entry is removed
 unfoldable pub removeFound : Shape → List ℕ → List ℕ → Option Live → Edited
 removeFound z img key none = record { answer = answer.Absent; image = img }
-removeFound z img key (some e) = record { answer = answer.Done; image = without z img key }
+removeFound z img key (some e) = record { answer = answer.Done; image = removeImage z img key }
 
 unfoldable pub removing : List ℕ → List ℕ → Examined → Edited
 removing img key (Refused s) = record { answer = answer.Refused s; image = img }

@@ -9,20 +9,18 @@ use lib.Dec.{eqb}
 use lib.ListN.{length, drop, replicate}
 use Rattle.lists.specs.Lists.{howMany, total}
 use Rattle.words.specs.Bytes.{Bytes}
-use Rattle.settings.specs.Rules.{Valid}
 use Rattle.settings.specs.Block.{BlockFits, settingsOf}
 use Rattle.layout.specs.declared.Shape.{Shape}
 use Rattle.layout.specs.Tiers.{IsExtra}
 use Rattle.layout.specs.Places.{mark}
-use Rattle.layout.specs.Frame.{shapeOf, FrameFits}
-use Rattle.chains.specs.Chains.{chained, chainedExtra, freeChain, ChainsFit}
+use Rattle.layout.specs.Frame.{shapeOf}
+use Rattle.chains.specs.Chains.{chained, chainedExtra, freeChain}
 use Rattle.entries.specs.declared.Live.{Live}
 use Rattle.entries.specs.Keys.{KeyFits}
 use Rattle.entries.specs.Stored.{keyOf, chunksFor}
 use Rattle.entries.specs.Live.{live}
-use Rattle.search.specs.Rules.{EntriesFit}
-use Rattle.chunks.specs.Chunks.{covers, ChunksFit}
-use Rattle.upkeep.specs.Sound.{Pair}
+use Rattle.chunks.specs.Chunks.{covers}
+use Rattle.upkeep.specs.Sound.{Pair, ImageFits}
 use Rattle.image.specs.declared.Counts.{Counts}
 use Rattle.image.specs.declared.Outcome.{Outcome}
 use Rattle.image.specs.declared.Outcome.the-variants as outcome
@@ -83,14 +81,10 @@ ByteCalls (c ∷ cs) = ByteCall c × ByteCalls cs
 abbrev pub shape : List ℕ → List ℕ → Shape
 shape block img = shapeOf (settingsOf block) img
 
--- the image fits the layout with the rules of the scope, stage by stage
+-- the block fits, and the image fits the layout with the rules of the scope, stage by stage
 pub record Fits (block img : List ℕ) : Type 0 where
   pub blockFits : BlockFits block
-  pub fieldsFit : Valid (settingsOf block)
-  pub frameFits : FrameFits (shape block img) img
-  pub chainsFit : ChainsFit (shape block img) img
-  pub entriesFit : EntriesFit (shape block img) img
-  pub chunksFit : ChunksFit (shape block img) img
+  pub imageFits : ImageFits (shape block img) img
 
 -- ---- demand 2, for an accepted image
 

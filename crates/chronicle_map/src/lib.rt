@@ -11,6 +11,7 @@ ghost use lib.ListN.{length};
 ghost use Rattle.entries.specs.Keys.{KeyFits};
 ghost use Rattle.upkeep.specs.Sound.{SoundImage};
 ghost use Rattle.edit.specs.Edits.{find, noRoom};
+ghost use Rattle.edit.specs.Replaced.{Storable};
 ghost use Rattle.image.specs.Check.{check as Check·check};
 ghost use Rattle.image.specs.List.{entry as List·entry};
 ghost use Rattle.chronicle_map.specs.Asked.{ValueFits, aKey, anEntry, asked};
@@ -80,7 +81,7 @@ fn asked_entry(block: &[u8], img: &[u8], key: &[u8], value: &[u8]) -> Examined
 }
 
 // Where the record of the whole key stands in an accepted image.
-fn look_up(z: Shape, img: &[u8], key: &[u8]) -> Located
+fn lookup_accepted(z: Shape, img: &[u8], key: &[u8]) -> Located
     requires { ⌜ SoundImage z (now img) ⌝ }
     ensures { λ r. ⌜ r ≡ fromFind (find z (now (img .entry)) (now (key .entry))) ⌝ }
 {
@@ -97,7 +98,7 @@ pub fn lookup(block: &[u8], img: &[u8], key: &[u8]) -> Located
 {
     match asked_key(block, img, key) {
         Examined::Refused(stage) => Located::Refused(stage),
-        Examined::Ready(z, _) => look_up(z, img, key),
+        Examined::Ready(z, _) => lookup_accepted(z, img, key),
     }
 }
 
@@ -113,7 +114,7 @@ pub fn record<'a>(block: &[u8], img: &'a [u8], key: &[u8]) -> &'a [u8]
 }
 
 // Removes the entry of a key from an accepted image.
-fn take(z: Shape, img: &mut [u8], key: &[u8]) -> Answer
+fn remove_accepted(z: Shape, img: &mut [u8], key: &[u8]) -> Answer
     requires { ⌜ SoundImage z (now img) ⌝ }
     ensures { λ r. ⌜ record { answer = r; image = now (img .exit) }
         ≡ removeFound z (now (img .entry)) (now (key .entry)) (find z (now (img .entry)) (now (key .entry))) ⌝ }
@@ -130,13 +131,13 @@ pub fn remove(block: &[u8], img: &mut [u8], key: &[u8]) -> Answer
 {
     match asked_key(block, img, key) {
         Examined::Refused(stage) => Answer::Refused(stage),
-        Examined::Ready(z, _) => take(z, img, key),
+        Examined::Ready(z, _) => remove_accepted(z, img, key),
     }
 }
 
 // Stores a record under a key in an accepted image.
-fn give(z: Shape, img: &mut [u8], key: &[u8], value: &[u8]) -> Answer
-    requires { ⌜ SoundImage z (now img) × KeyFits (z .settings) (length (now key)) × ValueFits (z .settings) (now key) (now value) ⌝ }
+fn store_accepted(z: Shape, img: &mut [u8], key: &[u8], value: &[u8]) -> Answer
+    requires { ⌜ Storable z (now img) (now key) (now value) ⌝ }
     ensures { λ r. ⌜ record { answer = r; image = now (img .exit) }
         ≡ storeUnless z (now (img .entry)) (now (key .entry)) (now (value .entry)) (noRoom z (now (img .entry)) (now (key .entry)) (now (value .entry))) ⌝ }
 {
@@ -153,6 +154,6 @@ pub fn store(block: &[u8], img: &mut [u8], key: &[u8], value: &[u8]) -> Answer
 {
     match asked_entry(block, img, key, value) {
         Examined::Refused(stage) => Answer::Refused(stage),
-        Examined::Ready(z, _) => give(z, img, key, value),
+        Examined::Ready(z, _) => store_accepted(z, img, key, value),
     }
 }

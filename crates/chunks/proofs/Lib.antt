@@ -1,4 +1,5 @@
 pub mod Covering
 pub mod Eights
 pub mod Marks
+pub mod LowMark
 pub mod Through

@@ -31,17 +31,24 @@ module _ (z : Shape) (img : List ℕ) where
   unfoldable pub lowestClear : ℕ → ℕ
   lowestClear t = orElse (first (below chunks) (clear t)) chunks
 
-  -- the lowest free chunk field of a tier
-  abbrev pub LowMarkFits : ℕ → Type 0
-  LowMarkFits t = get z img (lowPlace z t) ≡ lowestClear t
-
   -- ---- the rules
 
-  pub record TierFits (s t : ℕ) : Type 0 where
-    -- a marked chunk is covered by one entry, a clear one by none
-    pub marks : Below chunks (λ i. howMany (liveIn z img s t) (covers i) ≡ mark z img t i)
+  -- the lowest free chunk field of a tier; other crates know it by its laws alone (proofs/LowMark.antt)
+  pub record LowMarkFits (t : ℕ) : Type 0 where
+    pub exact : get z img (lowPlace z t) ≡ lowestClear t
+
+  -- the two counters that an edit of the tier changes
+  pub record CountersFit (t : ℕ) : Type 0 where
     pub entryCount : get z img (countPlace z t) ≡ length (fullSlots z img t)
     pub lowMark : LowMarkFits t
+
+  -- a marked chunk is covered by one entry, a clear one by none
+  abbrev pub MarksFit : ℕ → ℕ → Type 0
+  MarksFit s t = Below chunks (λ i. howMany (liveIn z img s t) (covers i) ≡ mark z img t i)
+
+  pub record TierFits (s t : ℕ) : Type 0 where
+    pub marks : MarksFit s t
+    pub counters : CountersFit t
 
   pub record FreeTierFits (t : ℕ) : Type 0 where
     pub slotsEmpty : Below slots (λ j. slotAt z img t j ≡ 0)
@@ -53,13 +60,21 @@ module _ (z : Shape) (img : List ℕ) where
 
   -- ---- decided
 
+  unfoldable pub lowMarkFits? : (t : ℕ) → Dec (LowMarkFits t)
+  lowMarkFits? t = rule (λ v. v .exact) (ℕ-discrete (get z img (lowPlace z t)) (lowestClear t)) λ a. yes (record { exact = a })
+
+  unfoldable pub countersFit? : (t : ℕ) → Dec (CountersFit t)
+  countersFit? t =
+      rule (λ v. v .entryCount) (ℕ-discrete (get z img (countPlace z t)) (length (fullSlots z img t))) λ a.
+      rule (λ v. v .lowMark) (lowMarkFits? t) λ b.
+      yes (record { entryCount = a; lowMark = b })
+
   unfoldable pub tierFits? : (s t : ℕ) → Dec (TierFits s t)
   tierFits? s t =
       rule (λ v. v .marks) (below? (λ i. howMany (liveIn z img s t) (covers i) ≡ mark z img t i)
       (λ i. ℕ-discrete (howMany (liveIn z img s t) (covers i)) (mark z img t i)) chunks) λ a.
-      rule (λ v. v .entryCount) (ℕ-discrete (get z img (countPlace z t)) (length (fullSlots z img t))) λ b.
-      rule (λ v. v .lowMark) (ℕ-discrete (get z img (lowPlace z t)) (lowestClear t)) λ c.
-      yes (record { marks = a; entryCount = b; lowMark = c })
+      rule (λ v. v .counters) (countersFit? t) λ b.
+      yes (record { marks = a; counters = b })
 
   unfoldable pub freeTierFits? : (t : ℕ) → Dec (FreeTierFits t)
   freeTierFits? t =

@@ -14,7 +14,7 @@ ghost use Rattle.layout.specs.Frame.{Framed};
 ghost use Rattle.chains.specs.Chains.{freeChain, FreeChainFits};
 ghost use Rattle.chains.specs.Walk.{tally, MetAtMost};
 ghost use Rattle.entries.specs.Live.{slotAt};
-ghost use Rattle.chunks.specs.Chunks.{lowestClear, FreeTierFits};
+ghost use Rattle.chunks.specs.Chunks.{lowestClear, LowMarkFits, FreeTierFits};
 ghost use Rattle.chunks.specs.Counting.{IsByte, IsFour, spreadOf, onesOf, MarksBelow};
 
 // Whether the bits of a tier are the counts of its chunks: how many are 1, or that one is not.
@@ -168,6 +168,18 @@ pub fn lowest_clear(z: Shape, img: &[u8], t: usize) -> usize
         i += 1;
     }
     i
+}
+
+// Whether the lowest free chunk field of a tier fits.
+pub fn low_mark_fits(z: Shape, img: &[u8], t: usize) -> bool
+    requires { ⌜ Framed z (length (now img)) × IsTier z t ⌝ }
+    ensures { λ r. ⌜ Decides r (LowMarkFits z (now (img .entry)) t) ⌝ }
+{
+    let low = lowest_clear(z, img, t);
+    if layout::read::low_of(z, img, t) != low as u64 {
+        return false;
+    }
+    true
 }
 
 // Chunks of whole bytes, from the first on, that are all clear: as many as there are before a byte with a 1.

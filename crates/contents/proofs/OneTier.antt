@@ -8,7 +8,7 @@ use Rattle.lists.specs.Lists.{howMany}
 use Rattle.lists.specs.Quantify.{Every}
 use Rattle.settings.specs.declared.Settings.{Settings}
 use Rattle.layout.specs.declared.Shape.{Shape}
-use Rattle.layout.specs.Places.{get, lowPlace, countPlace}
+use Rattle.layout.specs.Places.{get, countPlace}
 use Rattle.chains.specs.Walk.{tally}
 use Rattle.chains.proofs.Tally.{getD-tally}
 use Rattle.chains.proofs.Answer.{zeros-met}
@@ -17,7 +17,7 @@ use Rattle.entries.proofs.LiveLists.{fullSlots-in, in-fullSlots}
 use Rattle.search.specs.Rules.{SomeEmpty, SlotHolds}
 use Rattle.chunks.specs.declared.Compared.{Compared}
 use Rattle.chunks.specs.declared.Compared.the-variants.{Same, Differ}
-use Rattle.chunks.specs.Chunks.{covers, lowestClear, TierFits}
+use Rattle.chunks.specs.Chunks.{covers, LowMarkFits, TierFits}
 use Rattle.chunks.specs.Counting.{chunksOfAll, MarksBelow}
 use Rattle.chunks.proofs.Covering.{covered-by}
 use Rattle.chunks.proofs.Marks.{marked-all}
@@ -72,10 +72,13 @@ module _ (z : Shape) (img : List ℕ) (s t : ℕ) where
             tier-wrong (λ f. n (λ i h. counted i h ∙ f .marks i h))
 
         pub tier-right : (m : ℕ) → r ≡ Same m → {n : ℕ} → n ≡ length (fullSlots z img t) → get z img (countPlace z t) ≡ n
-            → get z img (lowPlace z t) ≡ lowestClear z img t
+            → LowMarkFits z img t
             → TierSays z img s t (Fit n m)
         tier-right m e en c l =
             let a : MarksBelow z img t covered chunks (Same m) = subst (MarksBelow z img t covered chunks) e w in
             record {
-              so = ((held, record { marks = λ i h. sym (counted i h) ∙ a .0 i h; entryCount = c ∙ en; lowMark = l }), (en, a .1 ∙ marked-all z img t));
+              so = (
+                (held, record { marks = λ i h. sym (counted i h) ∙ a .0 i h; counters = record { entryCount = c ∙ en; lowMark = l } }),
+                (en, a .1 ∙ marked-all z img t),
+              );
             }

@@ -105,8 +105,7 @@ fn tier_contents(z: Shape, img: &[u8], s: usize, t: usize) -> Contents
     if layout::read::count_of(z, img, t) != full as u64 {
         return Contents::BadChunks;
     }
-    let low = chunks::lowest_clear(z, img, t);
-    if layout::read::low_of(z, img, t) != low as u64 {
+    if !chunks::low_mark_fits(z, img, t) {
         return Contents::BadChunks;
     }
     Contents::Fit(full, marked)

@@ -28,7 +28,7 @@ use Rattle.search.specs.Rules.{keyAt, SlotsFit}
 use Rattle.search.proofs.Landing.{found-at, seek-in-lt, seek-key, lands}
 use Rattle.search.proofs.Fitting.{never-both}
 use Rattle.upkeep.specs.Sound.{SoundImage}
-use Rattle.upkeep.proofs.Recounting.{sound-image}
+use Rattle.upkeep.proofs.Sound.{sound-image}
 use Rattle.edit.specs.Edits.{find}
 
 -- ---- what is found, and what it means that nothing is
@@ -56,10 +56,10 @@ module _ (z : Shape) (img : List ℕ) (sound : SoundImage z img) where
   live-key s t j = refl
 
   tiers-of : (s : ℕ) → s < segments → Every (chain z img s) (IsTier z)
-  tiers-of s h = chain-tiers z img s h (sound .chains .segmentsFit s h)
+  tiers-of s h = chain-tiers z img s h (sound .fits .chains .segmentsFit s h)
 
   slots-fit : (s : ℕ) → s < segments → Every (chain z img s) (SlotsFit z img s)
-  slots-fit s h t m = sound .entries .tiersFit s h t m .slotsFit
+  slots-fit s h t m = sound .fits .entries .tiersFit s h t m .slotsFit
 
   -- the segment of a live entry is that of its key
   pub live-segment : (e : Live) → IsLive z img e → segmentOf settings (keyOf img (e .entry)) ≡ e .segment
@@ -81,7 +81,7 @@ module _ (z : Shape) (img : List ℕ) (sound : SoundImage z img) where
           let s : a .segment ≡ b .segment = sym (live-segment a p) ∙ ap (segmentOf settings) e ∙ live-segment b q in
           let mb′ : List·Memᴰ (b .tier) (chain z img (a .segment)) = rw s (q .tierIn) in
           let r : (a .tier ≡ b .tier) × (a .slot ≡ b .slot) =
-          sound .entries .keysOnce (a .segment) (p .segmentIn) (a .tier) (p .tierIn) (a .slot) (p .slotIn) (p .full) (b .tier) mb′ (b .slot)
+          sound .fits .entries .keysOnce (a .segment) (p .segmentIn) (a .tier) (p .tierIn) (a .slot) (p .slotIn) (p .full) (b .tier) mb′ (b .slot)
           (q .slotIn) (q .full) (sym ka ∙ e ∙ kb) in
           let t : a .tier ≡ b .tier = r .0 in
           let j : a .slot ≡ b .slot = r .1 in
@@ -100,7 +100,7 @@ module _ (z : Shape) (img : List ℕ) (sound : SoundImage z img) where
     pub search-found : (t j : ℕ) → search z img key ≡ At t j → find z img key ≡ some (liveAt z img (segmentOf settings key) t j)
     unfolding search
     search-found t j e =
-        let hs : segmentOf settings key < segments = segment-lt (sound .valid) key in
+        let hs : segmentOf settings key < segments = segment-lt (sound .fits .valid) key in
         let f : (seekIn z img key t ≡ j) × ((slotAt z img t j ≢ 0) × List·Memᴰ t (chain z img (segmentOf settings key))) =
         found-at z img key 0 0 (chain z img (segmentOf settings key)) t j e in
         let mt : List·Memᴰ t (chain z img (segmentOf settings key)) = f .1 .1 in
@@ -123,6 +123,6 @@ module _ (z : Shape) (img : List ℕ) (sound : SoundImage z img) where
             ap (λ (y : Live). keyOf img (y .entry)) (l .is) ∙ live-key (x .segment) (x .tier) (x .slot) in
             let f : search z img (keyAt z img (x .tier) (x .slot)) ≡ At (x .tier) (x .slot) =
             lands z img (sound-image z img sound) (x .segment) (tiers-of _ (l .segmentIn)) (slots-fit _ (l .segmentIn))
-            (sound .entries .keysOnce _ (l .segmentIn))
-            (λ u mu. sound .entries .tiersFit _ (l .segmentIn) u mu .reached) (x .tier) (l .tierIn) (x .slot) (l .slotIn) (l .full) in
+            (sound .fits .entries .keysOnce _ (l .segmentIn))
+            (λ u mu. sound .fits .entries .tiersFit _ (l .segmentIn) u mu .reached) (x .tier) (l .tierIn) (x .slot) (l .slotIn) (l .full) in
             never-both (search z img key) (x .tier) (x .slot) t j (ap (search z img) (sym (sym kx ∙ k)) ∙ f) e

@@ -1,18 +1,20 @@
 -- The entry that an edit takes out: where the search found it, and the image without it.
 use Prim.Native.Nat.{ℕ, _+_, _≤_, _<_}
 use mathlib.Core.List.{List}
-use mathlib.Core.Path.{_≡_, refl, ap, sym, _∙_, subst}
+use mathlib.Core.Path.{_≡_, refl, ap, ap₂, sym, _∙_, subst}
 use mathlib.Core.Logic.{_≢_}
-use mathlib.Core.Bool.{not}
+use mathlib.Core.Bool.{true, false}
 use mathlib.Core.Option.{Option, none, some}
 use native.Mathlib.Omega.{arith}
-use lib.Dec.{eqb}
 use lib.ListN.{length}
 use borrow.Author.Tests.{eq-eqb, ne-eqb}
+use Rattle.lists.specs.Quantify.{Every}
 use Rattle.settings.specs.declared.Settings.{Settings}
 use Rattle.layout.specs.declared.Shape.{Shape}
 use Rattle.layout.specs.Tiers.{IsTier}
+use Rattle.layout.specs.Places.{get, global, usedTiers}
 use Rattle.layout.specs.Frame.{Framed}
+use Rattle.chains.specs.Chains.{chain, freeHead}
 use Rattle.chains.proofs.Along.{chain-tiers}
 use Rattle.entries.specs.declared.Entry.{Entry}
 use Rattle.entries.specs.declared.Live.{Live}
@@ -26,13 +28,16 @@ use Rattle.search.specs.declared.Found.{Found}
 use Rattle.search.specs.declared.Found.the-variants.{At, Absent}
 use Rattle.search.specs.Search.{search, ChainTiers}
 use Rattle.search.specs.Rules.{EntryFits}
-use Rattle.upkeep.specs.Sound.{SoundImage}
-use Rattle.upkeep.proofs.Recounting.{sound-image}
+use Rattle.upkeep.specs.Sound.{SoundWith, SoundImage}
+use Rattle.upkeep.specs.Recount.{recount, settle, touched}
+use Rattle.upkeep.proofs.Sound.{sound-image}
 use Rattle.upkeep.proofs.Marked.{entry-inside, entry-long}
 use Rattle.removal.specs.Removal.{removeAt}
 use Rattle.placement.specs.declared.Old.{Old}
-use Rattle.edit.specs.Edits.{find, withoutEntry, without}
-use Rattle.edit.specs.Replaced.{oldOf, withoutOld, OldFits, isThere}
+use Rattle.placement.specs.Placement.{placeAt}
+use Rattle.joining.specs.Joining.{join}
+use Rattle.edit.specs.Edits.{find, withoutEntry, without, removedEntry, removeImage, tierOf}
+use Rattle.edit.specs.Replaced.{oldOf, withoutOld, replacedOld, extendedOld, OldFits, isThere, Extends}
 use Rattle.edit.proofs.Finding.{find-live, search-found, search-none}
 
 -- the lengths that were read are small
@@ -51,22 +56,43 @@ module _ (z : Shape) (img : List ℕ) (old : Old) where
   unfolding withoutOld
   out-some e = rw (ne-eqb (old .tier) 0 e, withoutOld)
 
-module _ (z : Shape) (img : List ℕ) (sound : SoundImage z img) where
-  open Shape z using (settings)
-  open Settings settings using (slots, chunks)
+-- the steps of a store, where the code has the image after each
+module _ (z : Shape) (img : List ℕ) (old : Old) where
+  pub replaced-is : (t c : ℕ) (key value : List ℕ) {one two three : List ℕ} → one ≡ withoutOld z img old → two ≡ placeAt z one t c key value
+      → three ≡ settle z two (touched t (old .tier)) → three ≡ replacedOld z img old t c key value
+  unfolding replacedOld
+  replaced-is t c key value e₁ e₂ e₃ =
+      e₃ ∙ ap (λ (x : List ℕ). settle z x (touched t (old .tier))) (e₂ ∙ ap (λ (x : List ℕ). placeAt z x t c key value) e₁)
 
+  pub extended-is : (s t : ℕ) (key value : List ℕ) {one two three four : List ℕ} → one ≡ withoutOld z img old → two ≡ join z one s
+      → three ≡ placeAt z two t 0 key value → four ≡ settle z three (touched t (old .tier)) → four ≡ extendedOld z img old s t key value
+  unfolding extendedOld
+  extended-is s t key value e₁ e₂ e₃ e₄ =
+      e₄ ∙ ap (λ (x : List ℕ). settle z x (touched t (old .tier)))
+      (e₃ ∙ ap (λ (x : List ℕ). placeAt z x t 0 key value) (e₂ ∙ ap (λ (x : List ℕ). join z x s) e₁))
+
+pub extends-joins : {z : Shape} {img : List ℕ} {old : Old} {s t : ℕ} {key value : List ℕ} → Extends z img old s t key value
+    → {one : List ℕ} → one ≡ withoutOld z img old
+    → Every (chain z one s) (IsTier z) × IsTier z (freeHead z one) × (get z one (global usedTiers) < 1024)
+extends-joins w e = rw e (w .chainIn, w .headIn, w .usedFew)
+
+module _ (z : Shape) (img : List ℕ) {C : Type 0} (sound : SoundWith C z img) where
   pub sound-framed : Framed z (length img)
   sound-framed = sound-image z img sound .framed
 
   pub sound-tiers : ChainTiers z img
-  sound-tiers s h = chain-tiers z img s h (sound .chains .segmentsFit s h)
+  sound-tiers s h = chain-tiers z img s h (sound .fits .chains .segmentsFit s h)
+
+module _ (z : Shape) (img : List ℕ) (sound : SoundImage z img) where
+  open Shape z using (settings)
+  open Settings settings using (slots, chunks)
 
   -- a live entry's tier, slot and chunks
   pub live-tier : (e : Live) → IsLive z img e → IsTier z (e .tier)
-  live-tier e l = sound-tiers (e .segment) (l .segmentIn) (e .tier) (l .tierIn)
+  live-tier e l = sound-tiers z img sound (e .segment) (l .segmentIn) (e .tier) (l .tierIn)
 
   live-fits : (e : Live) → IsLive z img e → EntryFits z img (e .segment) (e .tier) (e .slot)
-  live-fits e l = sound .entries .tiersFit (e .segment) (l .segmentIn) (e .tier) (l .tierIn) .slotsFit .full (e .slot) (l .slotIn) (l .full)
+  live-fits e l = sound .fits .entries .tiersFit (e .segment) (l .segmentIn) (e .tier) (l .tierIn) .slotsFit .full (e .slot) (l .slotIn) (l .full)
 
   live-range : (e : Live) → IsLive z img e → e .chunk + e .chunks ≤ chunks
   unfolding liveAt
@@ -95,11 +121,15 @@ module _ (z : Shape) (img : List ℕ) (sound : SoundImage z img) where
     found-live : (e : Live) → find z img key ≡ some e → IsLive z img e
     found-live e f = live-in z img e (find-live z img key e f .0)
 
+    -- its tier is one, so not 0
+    pub found-tier : (e : Live) → find z img key ≡ some e → e .tier ≢ 0
+    found-tier e f q = let t : IsTier z (e .tier) = live-tier e (found-live e f) in omega (arith, t)
+
     -- ---- by what is found
 
     fits-by : (o : Option Live) → find z img key ≡ o → OldFits z (oldOf o)
     unfolding oldOf
-    fits-by none f = record { tierIn = λ n. absurd (n refl); slotIn = omega (arith, sound .valid .slots); rangeEnds = omega arith }
+    fits-by none f = record { tierIn = λ n. absurd (n refl); slotIn = omega (arith, sound .fits .valid .slots); rangeEnds = omega arith }
     fits-by (some e) f =
         let l : IsLive z img e = found-live e f in
         record { tierIn = λ _. live-tier e l; slotIn = l .slotIn; rangeEnds = live-range e l }
@@ -107,16 +137,22 @@ module _ (z : Shape) (img : List ℕ) (sound : SoundImage z img) where
     out-by : (o : Option Live) → find z img key ≡ o → withoutOld z img (oldOf o) ≡ withoutEntry z img o
     unfolding oldOf withoutEntry
     out-by none f = sym (out-none z img (oldOf none) refl)
-    out-by (some e) f =
-        let t : IsTier z (e .tier) = live-tier e (found-live e f) in
-        sym (out-some z img (oldOf (some e)) (λ (q : e .tier ≡ 0). omega (arith, t)))
+    out-by (some e) f = sym (out-some z img (oldOf (some e)) (found-tier e f))
 
-    there-by : (o : Option Live) → find z img key ≡ o → not (eqb (oldOf o .tier) 0) ≡ isThere o
+    tier-by : (o : Option Live) → oldOf o .tier ≡ tierOf o
     unfolding oldOf
-    there-by none f = refl
-    there-by (some e) f =
-        let t : IsTier z (e .tier) = live-tier e (found-live e f) in
-        rw (ne-eqb (e .tier) 0 (λ (q : e .tier ≡ 0). omega (arith, t)))
+    tier-by none = refl
+    tier-by (some e) = refl
+
+    none-by : (o : Option Live) → find z img key ≡ o → tierOf o ≡ 0 → (false ≡ isThere o) × (img ≡ removedEntry z img o)
+    unfolding removedEntry
+    none-by none f q = (refl, refl)
+    none-by (some e) f q = absurd (found-tier e f q)
+
+    some-by : (o : Option Live) → tierOf o ≢ 0 → (true ≡ isThere o) × (recount z (withoutEntry z img o) (tierOf o) ≡ removedEntry z img o)
+    unfolding removedEntry withoutEntry settle
+    some-by none q = absurd (q refl)
+    some-by (some e) q = (refl, refl)
 
     module _ (old : Old) (is : old ≡ oldOf (find z img key)) where
       pub old-fits : OldFits z old
@@ -126,8 +162,21 @@ module _ (z : Shape) (img : List ℕ) (sound : SoundImage z img) where
       unfolding without
       old-out = ap (withoutOld z img) is ∙ out-by (find z img key) refl
 
-      pub old-there : not (eqb (old .tier) 0) ≡ isThere (find z img key)
-      old-there = ap (λ (x : Old). not (eqb (x .tier) 0)) is ∙ there-by (find z img key) refl
+      pub old-tier : old .tier ≡ tierOf (find z img key)
+      old-tier = ap (λ (x : Old). x .tier) is ∙ tier-by (find z img key)
+
+      -- a removal, where there is none and where there is one
+      pub removes-none : old .tier ≡ 0 → (false ≡ isThere (find z img key)) × (img ≡ removeImage z img key)
+      unfolding removeImage
+      removes-none q = none-by (find z img key) refl (sym old-tier ∙ q)
+
+      pub removes-some : old .tier ≢ 0 → {x y : List ℕ} → x ≡ withoutOld z img old → y ≡ recount z x (old .tier)
+          → (true ≡ isThere (find z img key)) × (y ≡ removeImage z img key)
+      unfolding removeImage without
+      removes-some q ex ey =
+          let r : (true ≡ isThere (find z img key)) × (recount z (withoutEntry z img (find z img key)) (tierOf (find z img key)) ≡ removeImage z img key) =
+          some-by (find z img key) (λ e. q (old-tier ∙ e)) in
+          (r .0, ey ∙ ap₂ (recount z) (ex ∙ old-out) old-tier ∙ r .1)
 
     -- ---- by the search
 

@@ -23,6 +23,7 @@ use Rattle.entries.proofs.Hashes.{segment-lt}
 use Rattle.chunks.specs.Chunks.{clear}
 use Rattle.upkeep.specs.Sound.{SoundImage}
 use Rattle.removal.specs.Removal.{removeEntry}
+use Rattle.upkeep.proofs.Sound.{sound-but}
 use Rattle.removal.proofs.Removing.{removal-chain, removal-mark-in, removal-mark-out, removal-mark-other, removal-full, removal-full-other}
 use Rattle.placement.specs.declared.Old.{Old}
 use Rattle.placement.specs.declared.Run.{Run}
@@ -45,8 +46,8 @@ module _ (z : Shape) (img : List ℕ) (sound : SoundImage z img) where
     unfolding oldOf
     full-after =
         ⊎-elim
-        (λ (q : t ≡ e .tier). sym (full-old z img (oldOf (some e)) t q) ∙ rw q (omega (arith, removal-full z img sound e m)))
-        (λ (q : t ≢ e .tier). sym (full-else z img (oldOf (some e)) t q) ∙ sym (removal-full-other z img sound e m t is q))
+        (λ (q : t ≡ e .tier). sym (full-old z img (oldOf (some e)) t q) ∙ rw q (omega (arith, removal-full z img (sound-but z img sound) e m)))
+        (λ (q : t ≢ e .tier). sym (full-else z img (oldOf (some e)) t q) ∙ sym (removal-full-other z img (sound-but z img sound) e m t is q))
         (same-or t (e .tier))
 
     marked-same : (i : ℕ) → mark z (removeEntry z img e) t i ≡ mark z img t i → clear z img t i ≡ clear z (removeEntry z img e) t i
@@ -56,13 +57,13 @@ module _ (z : Shape) (img : List ℕ) (sound : SoundImage z img) where
     unfolding oldOf
     clear-own q i h =
         ⊎-elim
-        (λ (a : i < e .chunk). sym (clear-before z img (oldOf (some e)) t i a) ∙ marked-same i (rw q (removal-mark-out z img sound e m i h (inl a))))
+        (λ (a : i < e .chunk). sym (clear-before z img (oldOf (some e)) t i a) ∙ marked-same i (rw q (removal-mark-out z img (sound-but z img sound) e m i h (inl a))))
         (λ (a : e .chunk ≤ i).
         ⊎-elim
         (λ (b : i < e .chunk + e .chunks).
         sym (clear-old z img (oldOf (some e)) t i q a b)
-        ∙ sym (eq-eqb (mark z (removeEntry z img e) t i) 0 (rw q (removal-mark-in z img sound e m i a b))))
-        (λ (b : e .chunk + e .chunks ≤ i). sym (clear-after z img (oldOf (some e)) t i b) ∙ marked-same i (rw q (removal-mark-out z img sound e m i h (inr b))))
+        ∙ sym (eq-eqb (mark z (removeEntry z img e) t i) 0 (rw q (removal-mark-in z img (sound-but z img sound) e m i a b))))
+        (λ (b : e .chunk + e .chunks ≤ i). sym (clear-after z img (oldOf (some e)) t i b) ∙ marked-same i (rw q (removal-mark-out z img (sound-but z img sound) e m i h (inr b))))
         (lt-or i (e .chunk + e .chunks)))
         (lt-or i (e .chunk))
 
@@ -71,7 +72,7 @@ module _ (z : Shape) (img : List ℕ) (sound : SoundImage z img) where
     clear-there i h =
         ⊎-elim
         (λ (q : t ≡ e .tier). clear-own q i h)
-        (λ (q : t ≢ e .tier). sym (clear-else z img (oldOf (some e)) t i q) ∙ marked-same i (removal-mark-other z img sound e m t i is q h))
+        (λ (q : t ≢ e .tier). sym (clear-else z img (oldOf (some e)) t i q) ∙ marked-same i (removal-mark-other z img (sound-but z img sound) e m t i is q h))
         (same-or t (e .tier))
 
   -- ---- the whole chain
@@ -81,7 +82,7 @@ module _ (z : Shape) (img : List ℕ) (sound : SoundImage z img) where
     s = segmentOf settings key
 
     tiers-of : Every (chain z img s) (IsTier z)
-    tiers-of = sound-tiers z img sound s (segment-lt (sound .valid) key)
+    tiers-of = sound-tiers z img sound s (segment-lt (sound .fits .valid) key)
 
     scan-by : (o : Option Live) → find z img key ≡ o
         → firstRun z (fullBut z img (oldOf o)) (clearBut z img (oldOf o)) (chain z img s) n
@@ -98,7 +99,7 @@ module _ (z : Shape) (img : List ℕ) (sound : SoundImage z img) where
         (λ t mt. full-after e m t (tiers-of t mt))
         (λ t mt i h. clear-there e m t (tiers-of t mt) i h)
         ∙ ap (λ (ts : List ℕ). firstRun z (fullIn z (removeEntry z img e)) (clear z (removeEntry z img e)) ts n)
-        (sym (removal-chain z img sound e m s (segment-lt (sound .valid) key)))
+        (sym (removal-chain z img (sound-but z img sound) e m s (segment-lt (sound .fits .valid) key)))
 
   pub scan-is : (key value : List ℕ) (old : Old) (r : Run) (t n : ℕ) → old ≡ oldOf (find z img key) → t ≡ segmentOf settings key
       → n ≡ chunksFor settings (length key) (length value) → r ≡ firstRun z (fullBut z img old) (clearBut z img old) (chain z img t) n

@@ -1,26 +1,25 @@
 -- What the code of a store knows at each step, by the scan's answer.
 use Prim.Native.Nat.{ℕ, _+_, _*_, _≤_, _<_}
 use mathlib.Core.List.{List, _++_}
-use mathlib.Core.Path.{_≡_, refl, ap, sym, _∙_}
+use mathlib.Core.Path.{_≡_, refl, ap, ap₂, sym, _∙_}
 use mathlib.Core.Logic.{_≢_}
 use mathlib.Core.Bool.{true, false}
 use native.Mathlib.Omega.{arith}
 use lib.ListN.{length, length-append}
 use borrow.Author.Tests.{eq-eqb, ne-eqb}
-use Rattle.lists.specs.Quantify.{Every}
 use Rattle.settings.specs.declared.Settings.{Settings}
 use Rattle.layout.specs.declared.Shape.{Shape}
 use Rattle.layout.specs.Tiers.{tiers, IsTier}
 use Rattle.layout.specs.Places.{get, global, usedTiers}
 use Rattle.chains.specs.Chains.{chain, freeHead, freeChain, chainedExtra}
 use Rattle.xxh64.specs.Hash.{xxh64}
-use Rattle.settings.specs.Rules.{Valid}
-use Rattle.entries.specs.Keys.{KeyFits, segmentOfHash, segmentOf}
+use Rattle.entries.specs.Keys.{segmentOfHash, segmentOf}
 use Rattle.entries.proofs.Sizes.{chunks-pos}
 use Rattle.entries.specs.Stored.{chunksFor}
 use Rattle.entries.proofs.Hashes.{segment-lt}
 use Rattle.chunks.specs.Chunks.{clear}
-use Rattle.upkeep.specs.Sound.{SoundImage}
+use Rattle.upkeep.specs.Sound.{SoundWith, SoundImage, SoundBut}
+use Rattle.upkeep.specs.Recount.{settle, touched}
 use Rattle.upkeep.proofs.Counts.{extras-number}
 use Rattle.placement.specs.declared.Old.{Old}
 use Rattle.placement.specs.declared.Run.{Run}
@@ -30,103 +29,135 @@ use Rattle.placement.specs.Placement.{placeAt}
 use Rattle.placement.proofs.Running.{run-found}
 use Rattle.joining.specs.Joining.{join}
 use Rattle.joining.proofs.Ends.{new-tier, free-cons}
-use Rattle.edit.specs.Edits.{find, without, runOf, noRoom, placeIn, storeImage}
-use Rattle.edit.specs.Replaced.{oldOf, withoutOld, Stores}
-use Rattle.edit.proofs.Without.{without-sound, without-head}
-use Rattle.edit.proofs.Replacing.{sound-tiers, old-out}
+use Rattle.edit.specs.Edits.{find, without, runOf, noRoom, placeIn, tierOf, storeImage}
+use Rattle.edit.specs.Replaced.{oldOf, withoutOld, replacedOld, extendedOld, Stores, Storable, Replaces, Extends}
+use Rattle.edit.proofs.Without.{left, without-sound, without-head}
+use Rattle.edit.proofs.Replacing.{sound-framed, sound-tiers, old-fits, old-out, old-tier}
 use Rattle.edit.proofs.Scanning.{scan-is}
 
--- the segment, from the hash
-pub segment-made : (st : Settings) (key : List ℕ) (h s : ℕ) → h ≡ xxh64 key → s ≡ segmentOfHash st h → s ≡ segmentOf st key
-unfolding segmentOf
-segment-made st key h s eh es = es ∙ ap (segmentOfHash st) eh
-
 -- an entry takes a chunk at least
-pub some-chunks : (st : Settings) (key value : List ℕ) → Valid st → KeyFits st (length key) → length value ≤ 65535 → (n : ℕ)
-    → n ≡ chunksFor st (length key) (length value) → 0 < n
-some-chunks st key value v hk hv n e = rw e (chunks-pos st (length key) (length value) (omega (arith, hk)) (omega arith) v)
+pub some-chunks : {z : Shape} {img key value : List ℕ} → Storable z img key value → (n : ℕ) → n ≡ chunksFor (z .settings) (length key) (length value)
+    → 0 < n
+some-chunks {z} {img} {key} {value} w n e =
+    rw e (chunks-pos (z .settings) (length key) (length value) (omega (arith, w .keyFits)) (omega (arith, w .valueLong)) (w .sound .fits .valid))
 
 -- a sound image with a free tier uses fewer than 1,024
-used-few : (z : Shape) (img : List ℕ) → SoundImage z img → (s : ℕ) → s < z .settings .segments → freeHead z img ≢ 0 → get z img (global usedTiers) < 1024
+used-few : {C : Type 0} (z : Shape) (img : List ℕ) → SoundWith C z img → (s : ℕ) → s < z .settings .segments → freeHead z img ≢ 0
+    → get z img (global usedTiers) < 1024
 unfolding tiers
 used-few z img sound s hs ne =
-    let n : length (chainedExtra z img ++ freeChain z img) ≡ z .bulks * z .settings .bulkTiers = extras-number z img (sound .chains) in
+    let n : length (chainedExtra z img ++ freeChain z img) ≡ z .bulks * z .settings .bulkTiers = extras-number z img (sound .fits .chains) in
     omega (
       arith,
-      sound .chains .usedIs,
+      sound .fits .chains .usedIs,
       length-append (chainedExtra z img) (freeChain z img),
-      ap length (free-cons z img s hs (sound .chains) ne),
-      sound .frame .tierCount,
+      ap length (free-cons z img s hs (sound .fits .chains) ne),
+      sound .fits .frame .tierCount,
     )
 
-module _ (z : Shape) (img : List ℕ) (sound : SoundImage z img) (key value : List ℕ)
-    (notTooMany : chunksFor (z .settings) (length key) (length value) ≤ z .settings .mostChunks)
-    (old : Old) (eo : old ≡ oldOf (find z img key)) (s n : ℕ) (es : s ≡ segmentOf (z .settings) key)
-    (en : n ≡ chunksFor (z .settings) (length key) (length value))
-    (r : Run) (er : r ≡ firstRun z (fullBut z img old) (clearBut z img old) (chain z img s) n) where
+-- what a store knows after its scan
+pub record Scanned (z : Shape) (img key value : List ℕ) (old : Old) (s n : ℕ) (r : Run) : Type 0 where
+  pub storable : Storable z img key value
+  pub oldIs : old ≡ oldOf (find z img key)
+  pub segmentIs : s ≡ segmentOf (z .settings) key
+  pub chunksIs : n ≡ chunksFor (z .settings) (length key) (length value)
+  pub runIs : r ≡ firstRun z (fullBut z img old) (clearBut z img old) (chain z img s) n
+
+pub scanned : {z : Shape} {img key value : List ℕ} {old : Old} {h s n : ℕ} {r : Run} → Storable z img key value → n ≡ chunksFor (z .settings) (length key) (length value)
+    → h ≡ xxh64 key → s ≡ segmentOfHash (z .settings) h → old ≡ oldOf (find z img key)
+    → r ≡ firstRun z (fullBut z img old) (clearBut z img old) (chain z img s) n → Scanned z img key value old s n r
+unfolding segmentOf
+scanned {z} w en eh es eo er =
+    record { storable = w; oldIs = eo; segmentIs = es ∙ ap (segmentOfHash (z .settings)) eh; chunksIs = en; runIs = er }
+
+module _ {z : Shape} {img key value : List ℕ} {old : Old} {s n : ℕ} {r : Run} (w : Scanned z img key value old s n r) where
   open Shape z using (settings)
   open Settings settings using (segments, chunks)
 
-  run-is : r ≡ runOf z (without z img key) key value
-  run-is = scan-is z img sound key value old r s n eo es en er
+  sound : SoundImage z img
+  sound = w .storable .sound
 
-  sound₁ : SoundImage z (without z img key)
+  -- the image without the key's entry
+  abbrev img₁ : List ℕ
+  img₁ = without z img key
+
+  run-is : r ≡ runOf z img₁ key value
+  run-is = scan-is z img sound key value old r s n (w .oldIs) (w .segmentIs) (w .chunksIs) (w .runIs)
+
+  sound₁ : SoundBut z img₁ (left (find z img key))
   sound₁ = without-sound z img sound key
+
+  old-is : withoutOld z img old ≡ img₁
+  old-is = old-out z img sound key old (w .oldIs)
+
+  hs : segmentOf settings key < segments
+  hs = segment-lt (sound .fits .valid) key
+
+  -- what both ends ask for, by the tier and the chunk
+  replaces : (t c : ℕ) → IsTier z t → c + chunksFor settings (length key) (length value) ≤ chunks → Replaces z (length img) old t c key value
+  replaces t c it h =
+      record {
+        framed = sound-framed z img sound;
+        oldFits = old-fits z img sound key old (w .oldIs);
+        tierIn = it;
+        keyLong = w .storable .keyFits .1;
+        valueLong = w .storable .valueLong;
+        rangeEnds = h;
+      }
 
   -- ---- no tier takes it, and none is free
 
   pub no-room : (head : ℕ) → r ≡ Nowhere → head ≡ freeHead z img → head ≡ 0 → Stores z img key value false img
   unfolding noRoom
-  no-room head f eh e0 = (rw (← run-is, f) (eq-eqb (freeHead z (without z img key)) 0 (without-head z img sound key ∙ sym eh ∙ e0)), refl)
+  no-room head f eh e0 = (rw (← run-is, f) (eq-eqb (freeHead z img₁) 0 (without-head z img sound key ∙ sym eh ∙ e0)), refl)
 
-  -- ---- the old entry is taken out
+  -- ---- a tier of the chain takes it
 
-  module _ {x : List ℕ} (ex : x ≡ withoutOld z img old) where
-    x-is : x ≡ without z img key
-    x-is = ex ∙ old-out z img sound key old eo
+  module _ (t c : ℕ) (f : r ≡ At t c) where
+    pub run-replaces : Replaces z (length img) old t c key value
+    unfolding runOf runFor
+    run-replaces =
+        let g : _ = run-found z (fullIn z img₁) (clear z img₁) (chain z img₁ (segmentOf settings key)) (chunksFor settings (length key) (length value))
+        t c (sym run-is ∙ f) in
+        replaces t c (sound-tiers z img₁ sound₁ (segmentOf settings key) hs t (g .0)) (g .2)
 
-    module _ (t c : ℕ) (f : r ≡ At t c) where
-      pub run-fits : IsTier z t × (c + chunksFor settings (length key) (length value) ≤ chunks)
-      unfolding runOf runFor
-      run-fits =
-          let g : _ = run-found z (fullIn z (without z img key)) (clear z (without z img key)) (chain z (without z img key) (segmentOf settings key))
-          (chunksFor settings (length key) (length value)) t c (sym run-is ∙ f) in
-          (sound-tiers z (without z img key) sound₁ (segmentOf settings key) (segment-lt (sound .valid) key) t (g .0), g .2)
+    pub run-stored : {y : List ℕ} → y ≡ replacedOld z img old t c key value → Stores z img key value true y
+    unfolding noRoom storeImage placeIn replacedOld
+    run-stored ey = (
+      rw (← run-is, f),
+      ey
+          ∙ ap₂ (λ (x : List ℕ) (u : ℕ). settle z (placeAt z x t c key value) (touched t u)) old-is (old-tier z img sound key old (w .oldIs))
+          ∙ rw (← run-is, f),
+    )
 
-      pub run-stored : {y : List ℕ} → y ≡ placeAt z x t c key value → Stores z img key value true y
-      unfolding noRoom storeImage placeIn
-      run-stored ey = (rw (← run-is, f), ey ∙ ap (λ (v : List ℕ). placeAt z v t c key value) x-is ∙ rw (← run-is, f))
+  -- ---- the first free tier takes it
 
-    module _ (head : ℕ) (f : r ≡ Nowhere) (eh : head ≡ freeHead z img) (ne : head ≢ 0) where
-      head-is : head ≡ freeHead z (without z img key)
-      head-is = eh ∙ sym (without-head z img sound key)
+  module _ (head : ℕ) (f : r ≡ Nowhere) (eh : head ≡ freeHead z img) (ne : head ≢ 0) where
+    head-is : head ≡ freeHead z img₁
+    head-is = eh ∙ sym (without-head z img sound key)
 
-      hs : segmentOf settings key < segments
-      hs = segment-lt (sound .valid) key
+    some-free : freeHead z img₁ ≢ 0
+    some-free q = ne (head-is ∙ q)
 
-      some-free : freeHead z (without z img key) ≢ 0
-      some-free q = ne (head-is ∙ q)
+    head-tier : IsTier z (freeHead z img₁)
+    head-tier = new-tier z img₁ (segmentOf settings key) hs (sound₁ .fits .chains) some-free
 
-      pub free-tier : IsTier z head
-      free-tier = rw head-is (new-tier z (without z img key) (segmentOf settings key) hs (sound₁ .chains) some-free)
+    pub free-extends : Extends z img old s head key value
+    free-extends =
+        record {
+          replaces = replaces head 0 (rw head-is head-tier) (omega (arith, w .storable .notTooMany, sound .fits .valid .mostChunks));
+          segmentIn = rw (w .segmentIs) hs;
+          chainIn = rw (old-is, w .segmentIs) (sound-tiers z img₁ sound₁ (segmentOf settings key) hs);
+          headIn = rw old-is head-tier;
+          usedFew = rw old-is (used-few z img₁ sound₁ (segmentOf settings key) hs some-free);
+        }
 
-      pub free-joins : Every (chain z x s) (IsTier z) × IsTier z (freeHead z x) × (get z x (global usedTiers) < 1024)
-      free-joins =
-          rw (x-is, es) (
-            sound-tiers z (without z img key) sound₁ (segmentOf settings key) hs,
-            new-tier z (without z img key) (segmentOf settings key) hs (sound₁ .chains) some-free,
-            used-few z (without z img key) sound₁ (segmentOf settings key) hs some-free,
-          )
-
-      pub free-fits : 0 + chunksFor settings (length key) (length value) ≤ chunks
-      free-fits = omega (arith, notTooMany, sound .valid .mostChunks)
-
-      pub free-stored : {w y : List ℕ} → w ≡ join z x s → y ≡ placeAt z w head 0 key value → Stores z img key value true y
-      unfolding noRoom storeImage placeIn
-      free-stored {w} ew ey =
-          let w-is : w ≡ join z (without z img key) (segmentOf settings key) =
-          ew ∙ ap (λ (v : List ℕ). join z v s) x-is ∙ ap (join z (without z img key)) es in (
-            rw (← run-is, f) (ne-eqb (freeHead z (without z img key)) 0 some-free),
-            ey ∙ ap (λ (v : List ℕ). placeAt z v head 0 key value) w-is
-                ∙ ap (λ (v : ℕ). placeAt z (join z (without z img key) (segmentOf settings key)) v 0 key value) head-is ∙ rw (← run-is, f),
-          )
+    pub free-stored : {y : List ℕ} → y ≡ extendedOld z img old s head key value → Stores z img key value true y
+    unfolding noRoom storeImage placeIn extendedOld
+    free-stored ey = (
+      rw (← run-is, f) (ne-eqb (freeHead z img₁) 0 some-free),
+      ey
+          ∙ ap₂ (λ (x : List ℕ) (u : ℕ). settle z (placeAt z (join z x s) head 0 key value) (touched head u)) old-is (old-tier z img sound key old (w .oldIs))
+          ∙ ap₂ (λ (q t : ℕ). settle z (placeAt z (join z img₁ q) t 0 key value) (touched t (tierOf (find z img key)))) (w .segmentIs) head-is
+          ∙ rw (← run-is, f),
+    )

@@ -1,41 +1,77 @@
 -- A store for which the row of 10 does not hold: the image is sound, and has the new key and record beside all other keys.
 use Prim.Native.Nat.{ℕ, _+_, _≤_, _<_}
-use mathlib.Core.List.{List, List·Memᴰ}
-use mathlib.Core.Path.{_≡_, refl, ap, _∙_}
-use mathlib.Core.Logic.{_≢_}
-use mathlib.Core.Bool.{true, false, not}
+use mathlib.Core.List.{List, _∷_, List·Memᴰ, List·Memᴰ·head, List·Memᴰ·cases-cons, List·Memᴰ·eq-of-singleton}
+use mathlib.Core.Path.{_≡_, refl, ap, sym, _∙_, subst}
+use mathlib.Core.Logic.{_≢_, ⊎-elim}
+use mathlib.Core.Bool.{true, false, not, _||_}
+use mathlib.Core.Option.{Option, none, some}
 use native.Mathlib.Omega.{arith}
+use lib.Dec.{eqb}
 use lib.ListN.{length}
-use borrow.Author.Tests.{eqb-true, eqb-false}
+use borrow.Author.Tests.{eq-eqb, ne-eqb, eqb-true, eqb-false}
+use Rattle.lists.specs.Cases.{same-or, by-test}
 use Rattle.lists.specs.Lists.{those, total}
+use Rattle.lists.specs.Quantify.{Every}
 use Rattle.words.specs.Bytes.{Bytes, same}
 use Rattle.settings.specs.declared.Settings.{Settings}
 use Rattle.layout.specs.declared.Shape.{Shape}
 use Rattle.chains.specs.Chains.{chain, freeHead}
-use Rattle.entries.specs.Keys.{KeyFits, segmentOf}
+use Rattle.entries.specs.declared.Live.{Live}
+use Rattle.entries.specs.Keys.{segmentOf}
 use Rattle.entries.specs.Stored.{chunksFor}
 use Rattle.entries.proofs.Hashes.{segment-lt}
 use Rattle.chunks.specs.Chunks.{clear}
-use Rattle.upkeep.specs.Sound.{Pair, pairsOf, SoundImage}
-use Rattle.upkeep.proofs.Recounting.{sound-but}
+use Rattle.upkeep.specs.Sound.{Pair, pairsOf, SoundImage, SoundBut}
+use Rattle.upkeep.specs.Recount.{touched}
+use Rattle.upkeep.proofs.Sound.{but-more}
+use Rattle.upkeep.proofs.Recounting.{IsChained, settle-sound, settle-pairs}
 use Rattle.placement.specs.declared.Run.{Run}
 use Rattle.placement.specs.declared.Run.the-variants.{At, Nowhere}
 use Rattle.placement.specs.Runs.{runFor, fullIn}
+use Rattle.placement.specs.Placement.{placeAt}
 use Rattle.placement.proofs.Running.{run-found}
-use Rattle.placement.proofs.Placing.{Places, place-sound, place-pairs}
+use Rattle.placement.proofs.Placing.{Places, place-sound, place-chain, place-pairs}
 use Rattle.joining.specs.Joining.{join}
-use Rattle.joining.proofs.Joined.{join-sound, join-in, join-pairs, join-empty, join-clear, join-absent}
-use Rattle.edit.specs.Edits.{without, runOf, nowhereToGo, noRoom, placeIn, storeImage}
-use Rattle.edit.proofs.Without.{without-sound, without-pairs, without-absent}
+use Rattle.joining.proofs.Joined.{join-sound, join-stays, join-in, join-pairs, join-empty, join-clear, join-absent}
+use Rattle.edit.specs.Edits.{find, without, runOf, nowhereToGo, noRoom, placeIn, tierFor, tierOf, storeImage}
+use Rattle.edit.specs.Replaced.{Storable}
+use Rattle.edit.proofs.Without.{left, without-sound, without-left, without-pairs, without-absent}
+use Rattle.edit.proofs.Replacing.{found-tier}
 
-module _ (z : Shape) (img : List ℕ) (sound : SoundImage z img) (key value : List ℕ) (keyBytes : Bytes key) (valueBytes : Bytes value)
-    (keyLong : KeyFits (z .settings) (length key)) (valueLong : length value ≤ 65535)
-    (notTooMany : chunksFor (z .settings) (length key) (length value) ≤ z .settings .mostChunks) where
+-- ---- the tiers that a store changes
+
+module _ (t : ℕ) where
+  touched-more : (o : Option Live) → ((e : Live) → o ≡ some e → e .tier ≢ 0) → (u : ℕ) → List·Memᴰ u (t ∷ left o) → List·Memᴰ u (touched t (tierOf o))
+  unfolding touched
+  touched-more none ne u m = m
+  touched-more (some e) ne u m =
+      ⊎-elim
+      (λ (q : e .tier ≡ t).
+      rw (ne-eqb (e .tier) 0 (ne e refl), eq-eqb (e .tier) t q, touched)
+      (⊎-elim (λ (k : u ≡ t). List·Memᴰ·head k) (λ k. List·Memᴰ·head (List·Memᴰ·eq-of-singleton k ∙ q)) (List·Memᴰ·cases-cons m)))
+      (λ (q : e .tier ≢ t). rw (ne-eqb (e .tier) 0 (ne e refl), ne-eqb (e .tier) t q, touched) m)
+      (same-or (e .tier) t)
+
+  touched-in : (o : Option Live) (u : ℕ) → List·Memᴰ u (touched t (tierOf o)) → List·Memᴰ u (t ∷ left o)
+  unfolding touched
+  touched-in none u m = m
+  touched-in (some e) u m =
+      by-test (eqb (e .tier) 0 || eqb (e .tier) t)
+      (λ b. List·Memᴰ·head (List·Memᴰ·eq-of-singleton (rw (b, touched) at m)))
+      (λ b. rw (b, touched) at m)
+
+module _ (z : Shape) (img : List ℕ) (key value : List ℕ) (w : Storable z img key value) (keyBytes : Bytes key) (valueBytes : Bytes value) where
   open Shape z using (settings)
   open Settings settings using (segments, slots, chunks)
 
+  sound : SoundImage z img
+  sound = w .sound
+
   abbrev img₁ : List ℕ
   img₁ = without z img key
+
+  abbrev gone : List ℕ
+  gone = left (find z img key)
 
   abbrev s : ℕ
   s = segmentOf settings key
@@ -43,28 +79,28 @@ module _ (z : Shape) (img : List ℕ) (sound : SoundImage z img) (key value : Li
   abbrev n : ℕ
   n = chunksFor settings (length key) (length value)
 
-  sound₁ : SoundImage z img₁
+  sound₁ : SoundBut z img₁ gone
   sound₁ = without-sound z img sound key
 
   hs : s < segments
-  hs = segment-lt (sound .valid) key
+  hs = segment-lt (sound .fits .valid) key
 
   -- ---- in a tier of the chain
 
-  fits-at : (t c : ℕ) → runOf z img₁ key value ≡ At t c → Places z img₁ s t c key value
+  fits-at : (t c : ℕ) → runOf z img₁ key value ≡ At t c → Places z img₁ gone s t c key value
   unfolding runOf runFor
   fits-at t c e =
       let r : List·Memᴰ t (chain z img₁ s) × (fullIn z img₁ t + 2 ≤ slots) × (c + n ≤ chunks) × ((i : ℕ) → c ≤ i → i < c + n → clear z img₁ t i ≡ true) =
       run-found z (fullIn z img₁) (clear z img₁) (chain z img₁ s) n t c e in
       record {
         segmentIn = hs;
-        sound = sound-but z img₁ sound₁ t;
+        sound = sound₁;
         tierIn = r .0;
         keyBytes = keyBytes;
         valueBytes = valueBytes;
-        keyLong = keyLong;
-        valueLong = valueLong;
-        notTooMany = notTooMany;
+        keyLong = w .keyFits;
+        valueLong = w .valueLong;
+        notTooMany = w .notTooMany;
         segmentIs = refl;
         roomy = r .1;
         rangeEnds = r .2;
@@ -74,7 +110,7 @@ module _ (z : Shape) (img : List ℕ) (sound : SoundImage z img) (key value : Li
 
   -- ---- in the first free tier
 
-  fits-free : freeHead z img₁ ≢ 0 → Places z (join z img₁ s) s (freeHead z img₁) 0 key value
+  fits-free : freeHead z img₁ ≢ 0 → Places z (join z img₁ s) (freeHead z img₁ ∷ gone) s (freeHead z img₁) 0 key value
   fits-free ne =
       record {
         segmentIn = hs;
@@ -82,38 +118,84 @@ module _ (z : Shape) (img : List ℕ) (sound : SoundImage z img) (key value : Li
         tierIn = join-in z img₁ s hs sound₁ ne;
         keyBytes = keyBytes;
         valueBytes = valueBytes;
-        keyLong = keyLong;
-        valueLong = valueLong;
-        notTooMany = notTooMany;
+        keyLong = w .keyFits;
+        valueLong = w .valueLong;
+        notTooMany = w .notTooMany;
         segmentIs = refl;
-        roomy = omega (arith, join-empty z img₁ s hs sound₁ ne, sound .valid .slots);
-        rangeEnds = omega (arith, notTooMany, sound .valid .mostChunks);
-        clearRun = λ i a b. join-clear z img₁ s hs sound₁ ne i (omega (arith, notTooMany, sound .valid .mostChunks));
+        roomy = omega (arith, join-empty z img₁ s hs sound₁ ne, sound .fits .valid .slots);
+        rangeEnds = omega (arith, w .notTooMany, sound .fits .valid .mostChunks);
+        clearRun = λ i a b. join-clear z img₁ s hs sound₁ ne i (omega (arith, w .notTooMany, sound .fits .valid .mostChunks));
         absent = join-absent z img₁ s hs sound₁ ne key (without-absent z img sound key s hs);
       }
 
-  -- ---- either
+  -- ---- either, before the counters follow
 
-  place-in-sound : (r : Run) → runOf z img₁ key value ≡ r → nowhereToGo z img₁ r ≡ false → SoundImage z (placeIn z img₁ key value r)
-  unfolding placeIn
-  place-in-sound (At t c) e h = place-sound z img₁ s t c key value (fits-at t c e)
-  place-in-sound Nowhere e h = place-sound z (join z img₁ s) s (freeHead z img₁) 0 key value (fits-free (eqb-false _ 0 h))
+  record Placed (img₂ : List ℕ) (t : ℕ) : Type 0 where
+    soundBut : SoundBut z img₂ (t ∷ gone)
+    chained : Every (t ∷ gone) (IsChained z img₂)
+    pairs : (F : Pair → ℕ) → total (pairsOf z img₂) F ≡ total (pairsOf z img₁) F + F (record { key = key; value = value })
 
-  place-in-pairs : (F : Pair → ℕ) (r : Run) → runOf z img₁ key value ≡ r → nowhereToGo z img₁ r ≡ false
-      → total (pairsOf z (placeIn z img₁ key value r)) F ≡ total (pairsOf z img₁) F + F (record { key = key; value = value })
+  -- every tier that was chained is so still
+  stays-chained : (img₂ : List ℕ) {but : List ℕ} (t c : ℕ) (p : Places z img₂ but s t c key value) → Every gone (IsChained z img₂)
+      → Every (t ∷ gone) (IsChained z (placeAt z img₂ t c key value))
+  stays-chained img₂ t c p g u m =
+      let d : IsChained z img₂ u =
+      ⊎-elim
+      (λ (e : u ≡ t). (s, (hs, subst (λ (x : ℕ). List·Memᴰ x (chain z img₂ s)) (sym e) (p .tierIn))))
+      (λ k. g u k)
+      (List·Memᴰ·cases-cons m) in
+      (d .0, (d .1 .0, subst (List·Memᴰ u) (sym (place-chain p (d .0) (d .1 .0))) (d .1 .1)))
+
+  placed : (r : Run) → runOf z img₁ key value ≡ r → nowhereToGo z img₁ r ≡ false → Placed (placeIn z img₁ key value r) (tierFor z img₁ r)
   unfolding placeIn
-  place-in-pairs F (At t c) e h = place-pairs z img₁ s t c key value (fits-at t c e) F
-  place-in-pairs F Nowhere e h =
-      place-pairs z (join z img₁ s) s (freeHead z img₁) 0 key value (fits-free (eqb-false _ 0 h)) F
-      ∙ ap (λ (k : ℕ). k + F (record { key = key; value = value })) (join-pairs z img₁ s hs sound₁ (eqb-false _ 0 h) F)
+  placed (At t c) e h =
+      let p : Places z img₁ gone s t c key value = fits-at t c e in
+      record {
+        soundBut = place-sound p;
+        chained = stays-chained img₁ t c p (without-left z img sound key);
+        pairs = place-pairs p;
+      }
+  placed Nowhere e h =
+      let ne : freeHead z img₁ ≢ 0 = eqb-false _ 0 h in
+      let p : Places z (join z img₁ s) (freeHead z img₁ ∷ gone) s (freeHead z img₁) 0 key value = fits-free ne in
+      record {
+        soundBut =
+            but-more z _ (λ u m. ⊎-elim (λ k. List·Memᴰ·head k) (λ k. k) (List·Memᴰ·cases-cons m))
+            (place-sound p);
+        chained =
+            stays-chained (join z img₁ s) (freeHead z img₁) 0 p
+            (λ u m. let d : IsChained z img₁ u = without-left z img sound key u m in (d .0, (d .1 .0, join-stays z img₁ s hs sound₁ ne (d .0) u (d .1 .0) (d .1 .1))));
+        pairs = λ F. place-pairs p F
+            ∙ ap (λ (k : ℕ). k + F (record { key = key; value = value })) (join-pairs z img₁ s hs sound₁ ne F);
+      }
+
+  -- ---- the whole
 
   module _ (some-room : noRoom z img key value ≡ false) where
+    abbrev r : Run
+    r = runOf z img₁ key value
+
+    done : Placed (placeIn z img₁ key value r) (tierFor z img₁ r)
+    unfolding noRoom
+    done = placed r refl some-room
+
+    changed : SoundBut z (placeIn z img₁ key value r) (touched (tierFor z img₁ r) (tierOf (find z img key)))
+    changed = but-more z _ (touched-more (tierFor z img₁ r) (find z img key) (λ e f. found-tier z img sound key e f)) (done .soundBut)
+
+    in-chains : Every (touched (tierFor z img₁ r) (tierOf (find z img key))) (IsChained z (placeIn z img₁ key value r))
+    in-chains u m = done .chained u (touched-in (tierFor z img₁ r) (find z img key) u m)
+
     pub store-sound : SoundImage z (storeImage z img key value)
-    unfolding storeImage noRoom
-    store-sound = place-in-sound (runOf z img₁ key value) refl some-room
+    unfolding storeImage
+    store-sound = settle-sound z _ (placeIn z img₁ key value r) changed in-chains
 
     pub store-pairs : (F : Pair → ℕ) → total (pairsOf z (storeImage z img key value)) F
         ≡ F (record { key = key; value = value }) + total (those (pairsOf z img) (λ p. not (same (p .key) key))) F
-    unfolding storeImage noRoom
+    unfolding storeImage
     store-pairs F =
-        omega (arith, place-in-pairs F (runOf z img₁ key value) refl some-room, without-pairs z img sound key F)
+        omega (
+          arith,
+          settle-pairs z _ (placeIn z img₁ key value r) changed in-chains F,
+          done .pairs F,
+          without-pairs z img sound key F,
+        )

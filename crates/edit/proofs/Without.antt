@@ -1,12 +1,13 @@
--- The image with the key's entry removed, if there is one: sound, without the key, and with all else.
+-- The image without the key's entry, if there is one: sound but for the counters of the tier that it left, without the key, and with all else.
 use Prim.Native.Nat.{ℕ, _≤_, _<_}
-use mathlib.Core.List.{List, List·Memᴰ}
-use mathlib.Core.Path.{_≡_, refl, ap, sym, _∙_}
+use mathlib.Core.List.{List, [], _∷_, List·Memᴰ, List·Memᴰ·not-nil, List·Memᴰ·eq-of-singleton}
+use mathlib.Core.Path.{_≡_, refl, ap, sym, _∙_, subst}
 use mathlib.Core.Logic.{_≢_}
 use mathlib.Core.Bool.{true, false, not}
 use mathlib.Core.Option.{Option, none, some}
 use native.Mathlib.Omega.{arith}
 use Rattle.lists.specs.Lists.{those, total}
+use Rattle.lists.specs.Quantify.{Every}
 use Rattle.lists.proofs.Totals.{total-same, total-zero, total-at, those-total}
 use Rattle.words.specs.Bytes.{same}
 use Rattle.words.proofs.Bytes.{same-eq, same-false}
@@ -17,10 +18,14 @@ use Rattle.entries.specs.Stored.{keyOf}
 use Rattle.entries.specs.Live.{slotAt, liveAt, live}
 use Rattle.entries.proofs.LiveLists.{in-live}
 use Rattle.search.specs.Rules.{keyAt}
-use Rattle.upkeep.specs.Sound.{Pair, pairOf, pairsOf, SoundImage}
+use Rattle.upkeep.specs.Sound.{Pair, pairOf, pairsOf, SoundImage, SoundBut}
+use Rattle.upkeep.specs.Recount.{settle}
+use Rattle.upkeep.proofs.Sound.{sound-but}
+use Rattle.upkeep.proofs.Recounting.{IsChained, settle-sound, settle-pairs}
 use Rattle.upkeep.proofs.KeyCounts.{withKey, keys-once, pair-live, live-pair}
-use Rattle.removal.proofs.Removing.{removal-sound, removal-pairs, removal-head}
-use Rattle.edit.specs.Edits.{find, withoutEntry, without}
+use Rattle.removal.specs.Removal.{removeEntry}
+use Rattle.removal.proofs.Removing.{removal-sound, removal-tier, removal-pairs, removal-head}
+use Rattle.edit.specs.Edits.{find, withoutEntry, without, removedEntry, removeImage}
 use Rattle.edit.proofs.Finding.{find-live, find-none}
 
 -- ---- a key's weight
@@ -43,13 +48,27 @@ others-own key F p e = rw (same-eq (p .key) key e, others)
 others-other : (key : List ℕ) (F : Pair → ℕ) (p : Pair) → p .key ≢ key → others key F p ≡ F p
 others-other key F p n = rw (same-false (p .key) key n, others)
 
+-- the tiers that an entry leaves
+abbrev pub left : Option Live → List ℕ
+left none = []
+left (some e) = e .tier ∷ []
+
 module _ (z : Shape) (img : List ℕ) (sound : SoundImage z img) (key : List ℕ) where
+  every : SoundBut z img []
+  every = sound-but z img sound
+
   -- ---- by what is found
 
-  entry-sound : (o : Option Live) → find z img key ≡ o → SoundImage z (withoutEntry z img o)
+  entry-sound : (o : Option Live) → find z img key ≡ o → SoundBut z (withoutEntry z img o) (left o)
   unfolding withoutEntry
-  entry-sound none f = sound
-  entry-sound (some e) f = removal-sound z img sound e (find-live z img key e f .0)
+  entry-sound none f = every
+  entry-sound (some e) f = removal-sound z img every e (find-live z img key e f .0)
+
+  entry-left : (o : Option Live) → find z img key ≡ o → Every (left o) (IsChained z (withoutEntry z img o))
+  unfolding withoutEntry
+  entry-left none f t m = absurd (List·Memᴰ·not-nil m)
+  entry-left (some e) f t m =
+      subst (IsChained z (removeEntry z img e)) (sym (List·Memᴰ·eq-of-singleton m)) (removal-tier z img every e (find-live z img key e f .0))
 
   entry-key : (o : Option Live) → find z img key ≡ o → total (pairsOf z (withoutEntry z img o)) (withKey key) ≡ 0
   unfolding withoutEntry
@@ -61,7 +80,7 @@ module _ (z : Shape) (img : List ℕ) (sound : SoundImage z img) (key : List ℕ
       ∙ total-zero (pairsOf z img)
   entry-key (some e) f =
       let r : List·Memᴰ e (live z img) × (keyOf img (e .entry) ≡ key) = find-live z img key e f in
-      omega (arith, removal-pairs z img sound e (r .0) (withKey key), with-own key (pairOf img e) (r .1), keys-once z img sound key)
+      omega (arith, removal-pairs z img every e (r .0) (withKey key), with-own key (pairOf img e) (r .1), keys-once z img sound key)
 
   entry-others : (F : Pair → ℕ) (o : Option Live) → find z img key ≡ o
       → total (pairsOf z (withoutEntry z img o)) (others key F) ≡ total (pairsOf z img) (others key F)
@@ -69,18 +88,22 @@ module _ (z : Shape) (img : List ℕ) (sound : SoundImage z img) (key : List ℕ
   entry-others F none f = refl
   entry-others F (some e) f =
       let r : List·Memᴰ e (live z img) × (keyOf img (e .entry) ≡ key) = find-live z img key e f in
-      omega (arith, removal-pairs z img sound e (r .0) (others key F), others-own key F (pairOf img e) (r .1))
+      omega (arith, removal-pairs z img every e (r .0) (others key F), others-own key F (pairOf img e) (r .1))
 
   entry-head : (o : Option Live) → find z img key ≡ o → freeHead z (withoutEntry z img o) ≡ freeHead z img
   unfolding withoutEntry
   entry-head none f = refl
-  entry-head (some e) f = removal-head z img sound e (find-live z img key e f .0)
+  entry-head (some e) f = removal-head z img every e (find-live z img key e f .0)
 
   -- ---- the whole
 
-  pub without-sound : SoundImage z (without z img key)
+  pub without-sound : SoundBut z (without z img key) (left (find z img key))
   unfolding without
   without-sound = entry-sound (find z img key) refl
+
+  pub without-left : Every (left (find z img key)) (IsChained z (without z img key))
+  unfolding without
+  without-left = entry-left (find z img key) refl
 
   pub without-key : total (pairsOf z (without z img key)) (withKey key) ≡ 0
   unfolding without
@@ -113,3 +136,20 @@ module _ (z : Shape) (img : List ℕ) (sound : SoundImage z img) (key : List ℕ
   without-absent s hs u mu k hk fk e =
       not-there (pairOf (without z img key) (liveAt z (without z img key) s u k))
       (live-pair z (without z img key) (liveAt z (without z img key) s u k) (in-live z (without z img key) s u k hs mu hk fk)) e
+
+  -- ---- after a removal the counters have followed
+
+  removed-by : (o : Option Live) → removedEntry z img o ≡ settle z (withoutEntry z img o) (left o)
+  unfolding removedEntry withoutEntry settle
+  removed-by none = refl
+  removed-by (some e) = refl
+
+  remove-is : removeImage z img key ≡ settle z (without z img key) (left (find z img key))
+  unfolding removeImage without
+  remove-is = removed-by (find z img key)
+
+  pub remove-sound : SoundImage z (removeImage z img key)
+  remove-sound = rw remove-is (settle-sound z (left (find z img key)) (without z img key) without-sound without-left)
+
+  pub remove-pairs : (F : Pair → ℕ) → total (pairsOf z (removeImage z img key)) F ≡ total (those (pairsOf z img) (λ p. not (same (p .key) key))) F
+  remove-pairs F = rw remove-is (settle-pairs z (left (find z img key)) (without z img key) without-sound without-left F ∙ without-pairs F)

@@ -1,6 +1,6 @@
 -- What an edit does to an accepted image: removal and store of a key; and the row of 10.
 use Prim.Native.Nat.{ℕ}
-use mathlib.Core.List.{List}
+use mathlib.Core.List.{List, [], _∷_}
 use mathlib.Core.Bool.{Bool, false}
 use mathlib.Core.Option.{Option, none, some}
 use lib.Dec.{eqb}
@@ -13,6 +13,7 @@ use Rattle.entries.specs.declared.Live.{Live}
 use Rattle.entries.specs.Keys.{segmentOf}
 use Rattle.entries.specs.Stored.{keyOf, chunksFor}
 use Rattle.entries.specs.Live.{live}
+use Rattle.upkeep.specs.Recount.{settle, touched}
 use Rattle.removal.specs.Removal.{removeEntry}
 use Rattle.placement.specs.declared.Run.{Run}
 use Rattle.placement.specs.declared.Run.the-variants.{At, Nowhere}
@@ -26,13 +27,22 @@ find z img key = first (live z img) (λ e. same (keyOf img (e .entry)) key)
 
 -- ---- removal
 
+-- the image without an entry, before the counters follow
 unfoldable pub withoutEntry : Shape → List ℕ → Option Live → List ℕ
 withoutEntry z img none = img
 withoutEntry z img (some e) = removeEntry z img e
 
--- the image with the key's entry removed, if there is one
+-- the image without the key's entry, if there is one: what a store asks of and starts from
 unfoldable pub without : Shape → List ℕ → List ℕ → List ℕ
 without z img key = withoutEntry z img (find z img key)
+
+-- the image after a removal
+unfoldable pub removedEntry : Shape → List ℕ → Option Live → List ℕ
+removedEntry z img none = img
+removedEntry z img (some e) = settle z (removeEntry z img e) (e .tier ∷ [])
+
+unfoldable pub removeImage : Shape → List ℕ → List ℕ → List ℕ
+removeImage z img key = removedEntry z img (find z img key)
 
 -- ---- store
 
@@ -53,6 +63,17 @@ unfoldable pub placeIn : Shape → List ℕ → List ℕ → List ℕ → Run �
 placeIn z img key value (At t c) = placeAt z img t c key value
 placeIn z img key value Nowhere = placeAt z (join z img (segmentOf (z .settings) key)) (freeHead z img) 0 key value
 
--- the old entry is removed first, in effect
+-- the tier that takes it, and the tier that an entry leaves (0 where there is none)
+abbrev pub tierFor : Shape → List ℕ → Run → ℕ
+tierFor z img (At t c) = t
+tierFor z img Nowhere = freeHead z img
+
+abbrev pub tierOf : Option Live → ℕ
+tierOf none = 0
+tierOf (some e) = e .tier
+
+-- the old entry is removed first, in effect; the counters of both tiers follow
 unfoldable pub storeImage : Shape → List ℕ → List ℕ → List ℕ → List ℕ
-storeImage z img key value = placeIn z (without z img key) key value (runOf z (without z img key) key value)
+storeImage z img key value =
+    settle z (placeIn z (without z img key) key value (runOf z (without z img key) key value))
+    (touched (tierFor z (without z img key) (runOf z (without z img key) key value)) (tierOf (find z img key)))

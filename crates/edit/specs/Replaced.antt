@@ -6,11 +6,22 @@ use mathlib.Core.Logic.{_≢_}
 use mathlib.Core.Bool.{Bool, true, false}
 use mathlib.Core.Option.{Option, none, some}
 use lib.Dec.{eqb}
+use lib.ListN.{length}
+use Rattle.lists.specs.Quantify.{Every}
 use Rattle.layout.specs.declared.Shape.{Shape}
 use Rattle.layout.specs.Tiers.{IsTier}
+use Rattle.layout.specs.Places.{get, global, usedTiers}
+use Rattle.layout.specs.Frame.{Framed}
+use Rattle.chains.specs.Chains.{chain, freeHead}
 use Rattle.entries.specs.declared.Live.{Live}
+use Rattle.entries.specs.Keys.{KeyFits}
+use Rattle.entries.specs.Stored.{chunksFor}
+use Rattle.upkeep.specs.Sound.{SoundImage}
+use Rattle.upkeep.specs.Recount.{settle, touched}
 use Rattle.removal.specs.Removal.{removeAt}
 use Rattle.placement.specs.declared.Old.{Old}
+use Rattle.placement.specs.Placement.{placeAt}
+use Rattle.joining.specs.Joining.{join}
 use Rattle.edit.specs.Edits.{noRoom, storeImage}
 
 unfoldable pub oldOf : Option Live → Old
@@ -20,6 +31,14 @@ oldOf (some e) = record { tier = e .tier; slot = e .slot; chunk = e .chunk; chun
 -- the image without it
 unfoldable pub withoutOld : Shape → List ℕ → Old → List ℕ
 withoutOld z img old = elim (eqb (old .tier) 0) [ true ↦ img | false ↦ removeAt z img (old .tier) (old .slot) (old .chunk) (old .chunks) ]
+
+-- after a store in tier t, from chunk c on
+unfoldable pub replacedOld : Shape → List ℕ → Old → ℕ → ℕ → List ℕ → List ℕ → List ℕ
+replacedOld z img old t c key value = settle z (placeAt z (withoutOld z img old) t c key value) (touched t (old .tier))
+
+-- the same where the first free tier joins segment s's chain and takes it
+unfoldable pub extendedOld : Shape → List ℕ → Old → ℕ → ℕ → List ℕ → List ℕ → List ℕ
+extendedOld z img old s t key value = settle z (placeAt z (join z (withoutOld z img old) s) t 0 key value) (touched t (old .tier))
 
 -- it stands in a tier, or there is none
 pub record OldFits (z : Shape) (old : Old) : Type 0 where
@@ -35,3 +54,26 @@ isThere (some e) = true
 abbrev pub Stores : Shape → List ℕ → List ℕ → List ℕ → Bool → List ℕ → Type 0
 Stores z img key value true img′ = (noRoom z img key value ≡ false) × (img′ ≡ storeImage z img key value)
 Stores z img key value false img′ = (noRoom z img key value ≡ true) × (img′ ≡ img)
+
+-- what a store asks for
+pub record Storable (z : Shape) (img key value : List ℕ) : Type 0 where
+  pub sound : SoundImage z img
+  pub keyFits : KeyFits (z .settings) (length key)
+  pub valueLong : length value ≤ 65535
+  pub notTooMany : chunksFor (z .settings) (length key) (length value) ≤ z .settings .mostChunks
+
+-- what its two ends ask for, once the place is known
+pub record Replaces (z : Shape) (len : ℕ) (old : Old) (t c : ℕ) (key value : List ℕ) : Type 0 where
+  pub framed : Framed z len
+  pub oldFits : OldFits z old
+  pub tierIn : IsTier z t
+  pub keyLong : length key ≤ 1024
+  pub valueLong : length value ≤ 65535
+  pub rangeEnds : c + chunksFor (z .settings) (length key) (length value) ≤ z .settings .chunks
+
+pub record Extends (z : Shape) (img : List ℕ) (old : Old) (s t : ℕ) (key value : List ℕ) : Type 0 where
+  pub replaces : Replaces z (length img) old t 0 key value
+  pub segmentIn : s < z .settings .segments
+  pub chainIn : Every (chain z (withoutOld z img old) s) (IsTier z)
+  pub headIn : IsTier z (freeHead z (withoutOld z img old))
+  pub usedFew : get z (withoutOld z img old) (global usedTiers) < 1024

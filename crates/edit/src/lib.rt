@@ -4,16 +4,11 @@ use placement::Old;
 use placement::Run;
 use search::Found;
 ghost use mathlib.Core.Path.{_≡_};
-ghost use mathlib.Core.Logic.{_≢_};
-ghost use Prim.Native.Nat.{_≤_};
 ghost use lib.ListN.{length};
-ghost use Rattle.words.specs.Bytes.{Bytes};
 ghost use Rattle.layout.specs.Frame.{Framed};
-ghost use Rattle.entries.specs.Keys.{KeyFits};
-ghost use Rattle.entries.specs.Stored.{chunksFor};
 ghost use Rattle.upkeep.specs.Sound.{SoundImage};
-ghost use Rattle.edit.specs.Edits.{find, without};
-ghost use Rattle.edit.specs.Replaced.{oldOf, withoutOld, OldFits, isThere, Stores};
+ghost use Rattle.edit.specs.Edits.{find, removeImage};
+ghost use Rattle.edit.specs.Replaced.{oldOf, withoutOld, replacedOld, extendedOld, OldFits, isThere, Stores, Storable, Replaces, Extends};
 
 // The entry with the whole key, if there is one.
 fn old_entry(z: Shape, img: &[u8], key: &[u8]) -> Old
@@ -51,16 +46,42 @@ fn take_out(z: Shape, img: &mut [u8], old: Old)
 // Removes the entry with the whole key; whether there was one.
 pub fn remove(z: Shape, img: &mut [u8], key: &[u8]) -> bool
     requires { ⌜ SoundImage z (now img) ⌝ }
-    ensures { λ r. ⌜ (r ≡ isThere (find z (now (img .entry)) (now (key .entry)))) × (now (img .exit) ≡ without z (now (img .entry)) (now (key .entry))) ⌝ }
+    ensures { λ r. ⌜ (r ≡ isThere (find z (now (img .entry)) (now (key .entry)))) ×
+        (now (img .exit) ≡ removeImage z (now (img .entry)) (now (key .entry))) ⌝ }
 {
     let old = old_entry(z, img, key);
+    if old.tier == 0 {
+        return false;
+    }
     take_out(z, img, old);
-    old.tier != 0
+    upkeep::recount(z, img, old.tier);
+    true
+}
+
+// The new entry goes to tier t, in the chunks from c on. The counters follow when all else is written.
+fn replace(z: Shape, img: &mut [u8], old: Old, t: usize, c: usize, key: &[u8], value: &[u8])
+    requires { ⌜ Replaces z (length (now img)) old t c (now key) (now value) ⌝ }
+    ensures { λ r. ⌜ now (img .exit) ≡ replacedOld z (now (img .entry)) old t c (now (key .entry)) (now (value .entry)) ⌝ }
+{
+    take_out(z, img, old);
+    placement::place::place_at(z, img, t, c, key, value);
+    upkeep::settle(z, img, t, old.tier);
+}
+
+// The same where the first free tier t joins segment s's chain.
+fn extend(z: Shape, img: &mut [u8], old: Old, s: usize, t: usize, key: &[u8], value: &[u8])
+    requires { ⌜ Extends z (now img) old s t (now key) (now value) ⌝ }
+    ensures { λ r. ⌜ now (img .exit) ≡ extendedOld z (now (img .entry)) old s t (now (key .entry)) (now (value .entry)) ⌝ }
+{
+    take_out(z, img, old);
+    joining::join(z, img, s);
+    placement::place::place_at(z, img, t, 0, key, value);
+    upkeep::settle(z, img, t, old.tier);
 }
 
 // Stores a record under a key; whether it found room. Nothing is written before that is known.
 pub fn store(z: Shape, img: &mut [u8], key: &[u8], value: &[u8]) -> bool
-    requires { ⌜ SoundImage z (now img) × KeyFits (z .settings) (length (now key)) × (length (now value) ≤ 65535) × (chunksFor (z .settings) (length (now key)) (length (now value)) ≤ z .settings .mostChunks) ⌝ }
+    requires { ⌜ Storable z (now img) (now key) (now value) ⌝ }
     ensures { λ r. ⌜ Stores z (now (img .entry)) (now (key .entry)) (now (value .entry)) r (now (img .exit)) ⌝ }
 {
     let n = entries::chunks_for(z.settings, key.len(), value.len());
@@ -72,12 +93,9 @@ pub fn store(z: Shape, img: &mut [u8], key: &[u8], value: &[u8]) -> bool
         if head == 0 {
             return false;
         }
-        take_out(z, img, old);
-        joining::join(z, img, s);
-        placement::place::place_at(z, img, head, 0, key, value);
+        extend(z, img, old, s, head, key, value);
         return true;
     };
-    take_out(z, img, old);
-    placement::place::place_at(z, img, t, c, key, value);
+    replace(z, img, old, t, c, key, value);
     true
 }

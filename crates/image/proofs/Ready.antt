@@ -1,7 +1,7 @@
 -- What the check accepts: exactly the images in which every stage fits.
 use Prim.Native.Nat.{ℕ}
 use mathlib.Core.List.{List}
-use mathlib.Core.Path.{_≡_, refl, sym, _∙_, ap}
+use mathlib.Core.Path.{_≡_, refl, sym, _∙_, ap, subst}
 use native.Mathlib.Omega.{arith}
 use lib.ListN.{length}
 use Rattle.settings.specs.declared.Settings.{Settings}
@@ -18,6 +18,7 @@ use Rattle.chains.proofs.Along.{chain-tiers}
 use Rattle.search.specs.Search.{ChainTiers}
 use Rattle.search.specs.Rules.{EntriesFit, entriesFit?}
 use Rattle.chunks.specs.Chunks.{ChunksFit, chunksFit?}
+use Rattle.upkeep.specs.Sound.{ImageFits}
 use Rattle.image.specs.declared.Stage.{Stage}
 use Rattle.image.specs.declared.Counts.{Counts}
 use Rattle.image.specs.declared.Examined.the-variants.{Ready, Refused}
@@ -30,89 +31,78 @@ refused-ready {A} {k} {z} {c} e = absurd (let q : _≡_ {A = ℕ} 0 1 = cc in om
 module _ (block img : List ℕ) where
   -- ---- an image in which every stage fits, z being its shape
 
-  pub record Sound (z : Shape) : Type 0 where
+  pub record Fitting (z : Shape) : Type 0 where
     pub blockFits : BlockFits block
-    pub valid : Valid (settingsOf block)
     pub shape : z ≡ shapeOf (settingsOf block) img
-    pub frameFits : FrameFits z img
-    pub chainsFit : ChainsFit z img
-    pub entriesFit : EntriesFit z img
-    pub chunksFit : ChunksFit z img
+    pub image : ImageFits z img
 
   -- it is accepted, with its shape and its counts
 
-  pub sound-ready : (z : Shape) → Sound z → examine block img ≡ Ready z (countsOf z img)
-  unfolding examine afterBlock
-  sound-ready z f =
-      ap (afterBlock img) (parse-accepts block (f .blockFits) (f .valid))
+  pub fitting-ready : (z : Shape) → Fitting z → examine block img ≡ Ready z (countsOf z img)
+  unfolding examine afterBlock shapeOf
+  fitting-ready z f =
+      ap (afterBlock img) (parse-accepts block (f .blockFits) (subst (λ (x : Shape). Valid (x .settings)) (f .shape) (f .image .valid)))
       ∙ rw (← f .shape)
-      (frame-yes z img (frameFits? z img) (f .frameFits)
-      ∙ chains-yes z img (chainsFit? z img) (f .chainsFit)
-      ∙ entries-yes z img (entriesFit? z img) (f .entriesFit)
-      ∙ chunks-yes z img (chunksFit? z img) (f .chunksFit))
+      (frame-yes z img (frameFits? z img) (f .image .frame)
+      ∙ chains-yes z img (chainsFit? z img) (f .image .chains)
+      ∙ entries-yes z img (entriesFit? z img) (f .image .entries)
+      ∙ chunks-yes z img (chunksFit? z img) (f .image .chunks))
 
   -- ---- and no other is
 
-  record After (z x : Shape) : Type 0 where
-    is : z ≡ x
-    frame : FrameFits x img
-    chains : ChainsFit x img
-    entries : EntriesFit x img
-    chunks : ChunksFit x img
-
-  module _ (z : Shape) (c : Counts) (x : Shape) (frame : FrameFits x img) where
-    from-chunks : ChainsFit x img → EntriesFit x img → (d : Dec (ChunksFit x img)) → afterChunks x img d ≡ Ready z c → After z x
+  -- where the stages from the frame on answered Ready z
+  module _ (z : Shape) (c : Counts) (x : Shape) (valid : Valid (x .settings)) where
+    from-chunks : FrameFits x img → ChainsFit x img → EntriesFit x img → (d : Dec (ChunksFit x img)) → afterChunks x img d ≡ Ready z c
+        → (z ≡ x) × ImageFits x img
     unfolding afterChunks
-    from-chunks a b (no _) e = refused-ready e
-    from-chunks a b (yes g) e = record { is = cc; frame = frame; chains = a; entries = b; chunks = g }
+    from-chunks f a b (no _) e = refused-ready e
+    from-chunks f a b (yes g) e = (cc, record { valid = valid; frame = f; chains = a; entries = b; chunks = g })
 
-    from-entries : ChainsFit x img → (d : Dec (EntriesFit x img)) → afterEntries x img d ≡ Ready z c → After z x
+    from-entries : FrameFits x img → ChainsFit x img → (d : Dec (EntriesFit x img)) → afterEntries x img d ≡ Ready z c → (z ≡ x) × ImageFits x img
     unfolding afterEntries
-    from-entries a (no _) e = refused-ready e
-    from-entries a (yes b) e = from-chunks a b (chunksFit? x img) e
+    from-entries f a (no _) e = refused-ready e
+    from-entries f a (yes b) e = from-chunks f a b (chunksFit? x img) e
 
-    from-chains : (d : Dec (ChainsFit x img)) → afterChains x img d ≡ Ready z c → After z x
+    from-chains : FrameFits x img → (d : Dec (ChainsFit x img)) → afterChains x img d ≡ Ready z c → (z ≡ x) × ImageFits x img
     unfolding afterChains
-    from-chains (no _) e = refused-ready e
-    from-chains (yes a) e = from-entries a (entriesFit? x img) e
+    from-chains f (no _) e = refused-ready e
+    from-chains f (yes a) e = from-entries f a (entriesFit? x img) e
 
-  from-frame : (z : Shape) (c : Counts) (x : Shape) (d : Dec (FrameFits x img)) → afterFrame x img d ≡ Ready z c → After z x
-  unfolding afterFrame
-  from-frame z c x (no _) e = refused-ready e
-  from-frame z c x (yes f) e = from-chains z c x f (chainsFit? x img) e
+    from-frame : (d : Dec (FrameFits x img)) → afterFrame x img d ≡ Ready z c → (z ≡ x) × ImageFits x img
+    unfolding afterFrame
+    from-frame (no _) e = refused-ready e
+    from-frame (yes f) e = from-chains f (chainsFit? x img) e
 
-  from-parsed : (z : Shape) (c : Counts) (p : Parsed) → parse block ≡ p → afterBlock img p ≡ Ready z c → Sound z
-  unfolding afterBlock
+  from-parsed : (z : Shape) (c : Counts) (p : Parsed) → parse block ≡ p → afterBlock img p ≡ Ready z c → Fitting z
+  unfolding afterBlock shapeOf
   from-parsed z c BadBlock q e = refused-ready e
   from-parsed z c BadField q e = refused-ready e
   from-parsed z c (Accepted st) q e =
       let a : Accepts block st = parse-only block st q in
-      let f : After z (shapeOf st img) = from-frame z c (shapeOf st img) (frameFits? (shapeOf st img) img) e in
+      let f : (z ≡ shapeOf st img) × ImageFits (shapeOf st img) img = from-frame z c (shapeOf st img) (a .valid) (frameFits? (shapeOf st img) img) e in
       record {
         blockFits = a .block-fits;
-        valid = rw (← a .is) (a .valid);
-        shape = f .is ∙ ap (λ (x : Settings). shapeOf x img) (a .is);
-        frameFits = rw (f .is) (f .frame);
-        chainsFit = rw (f .is) (f .chains);
-        entriesFit = rw (f .is) (f .entries);
-        chunksFit = rw (f .is) (f .chunks);
+        shape = f .0 ∙ ap (λ (x : Settings). shapeOf x img) (a .is);
+        image = subst (λ (x : Shape). ImageFits x img) (sym (f .0)) (f .1);
       }
 
   module _ (z : Shape) (c : Counts) (e : examine block img ≡ Ready z c) where
-    pub ready-sound : Sound z
+    pub ready-fitting : Fitting z
     unfolding examine
-    ready-sound = from-parsed z c (parse block) refl e
+    ready-fitting = from-parsed z c (parse block) refl e
 
     -- the counts are those of the image
     pub ready-counts : c ≡ countsOf z img
-    ready-counts = let h : Ready z (countsOf z img) ≡ Ready z c = sym (sound-ready z ready-sound) ∙ e in cc
+    ready-counts = let h : Ready z (countsOf z img) ≡ Ready z c = sym (fitting-ready z ready-fitting) ∙ e in cc
 
     -- what the calls that go on to work with the image ask for
 
     pub ready-framed : Framed z (length img)
+    unfolding shapeOf
     ready-framed =
-        let f : Sound z = ready-sound in
-        frame-framed (settingsOf block) img z (f .valid) (rw (f .shape) (frame-fits (settingsOf block) img (rw (f .shape) at (f .frameFits))))
+        let f : Fitting z = ready-fitting in
+        frame-framed (settingsOf block) img z (subst (λ (x : Shape). Valid (x .settings)) (f .shape) (f .image .valid))
+        (rw (f .shape) (frame-fits (settingsOf block) img (rw (f .shape) at (f .image .frame))))
 
     pub ready-tiers : ChainTiers z img
-    ready-tiers s h = let f : Sound z = ready-sound in chain-tiers z img s h (f .chainsFit .segmentsFit s h)
+    ready-tiers s h = chain-tiers z img s h (ready-fitting .image .chains .segmentsFit s h)

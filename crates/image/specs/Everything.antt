@@ -24,10 +24,10 @@ use Rattle.entries.specs.Stored.{valueOffset, chunksFor, entryBytes, afterValue
 use Rattle.entries.specs.Live.{fullSlots, entryAt, liveAt, liveIn, liveOf, live}
 use Rattle.search.specs.Rules.{isWhole?, keyAt, full?, reached?, hashed?, entryFits?, slotsFit?, tierFits?, keyOnce?, keysOnce?, entriesFit?}
 use Rattle.search.specs.Search.{hits, seekIn, searchFrom, search}
-use Rattle.chunks.specs.Chunks.{lowestClear, tierFits? as chunksTierFits?, freeTierFits?, chunksFit?, markedIn, markedChunks}
+use Rattle.chunks.specs.Chunks.{lowestClear, lowMarkFits?, countersFit?, tierFits? as chunksTierFits?, freeTierFits?, chunksFit?, markedIn, markedChunks}
 use Rattle.image.specs.Check.{countsOf, afterChunks, afterEntries, afterChains, afterFrame, afterBlock, examine, verdictOf, check}
 use Rattle.image.specs.List.{pick, fromNth, fromExamined, entry}
 
 unfoldable pub everything : ℕ
-unfolding flatMap decLe decLt ℕ-discrete span first those total both either implied refuted someBelow rule below? every? same same? le leBytes putLe be bit putBit putBits ones encodeWithin encode front value accept decode roundOf stripeOf lanesOf sumOf mergeOf convergeOf startOf totalOf mix8Of mix4Of mix1Of tailOf restOf avalancheOf xxh64 powerOfTwo? between? valid? blockFits? field settingsOf fromRules fromBlock parse tiers mains bulksAt storeEnd extraAt tierAt partAt partWide at wide get put sharedPlace freeListAt mark putMarks chunkAt puts shapeOf frameFits? follow endOf chain freeChain chained chainedExtra isExtra? standsAt? chainFits? freeChainFits? chainsFit? fromChains chainsOf next dist probe room seek segmentOf lookupOfHash lookupKey valueOffset chunksFor entryBytes afterValueLength afterKeyLength stored fullSlots entryAt liveAt liveIn liveOf live isWhole? keyAt full? reached? hashed? entryFits? slotsFit? tierFits? keyOnce? keysOnce? entriesFit? hits seekIn searchFrom search lowestClear chunksTierFits? freeTierFits? chunksFit? markedIn markedChunks countsOf afterChunks afterEntries afterChains afterFrame afterBlock examine verdictOf check pick fromNth fromExamined entry
+unfolding flatMap decLe decLt ℕ-discrete span first those total both either implied refuted someBelow rule below? every? same same? le leBytes putLe be bit putBit putBits ones encodeWithin encode front value accept decode roundOf stripeOf lanesOf sumOf mergeOf convergeOf startOf totalOf mix8Of mix4Of mix1Of tailOf restOf avalancheOf xxh64 powerOfTwo? between? valid? blockFits? field settingsOf fromRules fromBlock parse tiers mains bulksAt storeEnd extraAt tierAt partAt partWide at wide get put sharedPlace freeListAt mark putMarks chunkAt puts shapeOf frameFits? follow endOf chain freeChain chained chainedExtra isExtra? standsAt? chainFits? freeChainFits? chainsFit? fromChains chainsOf next dist probe room seek segmentOf lookupOfHash lookupKey valueOffset chunksFor entryBytes afterValueLength afterKeyLength stored fullSlots entryAt liveAt liveIn liveOf live isWhole? keyAt full? reached? hashed? entryFits? slotsFit? tierFits? keyOnce? keysOnce? entriesFit? hits seekIn searchFrom search lowestClear lowMarkFits? countersFit? chunksTierFits? freeTierFits? chunksFit? markedIn markedChunks countsOf afterChunks afterEntries afterChains afterFrame afterBlock examine verdictOf check pick fromNth fromExamined entry
 everything = 0

@@ -1,110 +1,112 @@
 -- The first free tier joined a segment's chain: the image is sound but for the tier's two counters, and it holds what it held.
 use Prim.Native.Nat.{ℕ, _<_}
-use mathlib.Core.List.{List, [], _∷_, _++_, List·Memᴰ, List·Memᴰ·head, Memᴰ·append-right}
-use mathlib.Core.Path.{_≡_, refl, ap, sym, _∙_}
+use mathlib.Core.List.{List, [], _∷_, _++_, List·Memᴰ, List·Memᴰ·head, List·Memᴰ·tail, Memᴰ·append-left, Memᴰ·append-right}
+use mathlib.Core.Path.{_≡_, refl, sym, _∙_, subst}
 use mathlib.Core.Logic.{⊎-elim, _≢_}
 use native.Mathlib.Omega.{arith}
 use lib.ListN.{length}
-use Rattle.lists.specs.Lists.{howMany, total}
+use Rattle.lists.specs.Cases.{same-or}
+use Rattle.lists.specs.Lists.{total}
 use Rattle.lists.specs.Quantify.{Below, Every}
 use Rattle.layout.specs.declared.Shape.{Shape}
 use Rattle.layout.specs.Tiers.{IsExtra}
-use Rattle.layout.specs.Places.{bulkCount, headersOffset, storeSize, get, mark, countPlace, lowPlace}
+use Rattle.layout.specs.Places.{bulkCount, headersOffset, storeSize, mark}
 use Rattle.layout.proofs.Frames.{shape-same, fits-same}
 use Rattle.chains.specs.Chains.{chain, freeHead, freeChain}
-use Rattle.entries.specs.declared.Live.{Live}
-use Rattle.entries.specs.Live.{slotAt, fullSlots, liveIn}
+use Rattle.entries.specs.Live.{slotAt, fullSlots}
 use Rattle.search.specs.Rules.{keyAt, KeysOnce, EntriesFit}
-use Rattle.chunks.specs.Chunks.{covers, LowMarkFits, FreeTierFits}
-use Rattle.upkeep.specs.Sound.{Pair, pairsOf, SoundImage, SoundBut}
+use Rattle.chunks.specs.Chunks.{MarksFit, CountersFit, FreeTierFits}
+use Rattle.upkeep.specs.Sound.{Pair, pairsOf, SoundBut}
 use Rattle.joining.specs.Joining.{lastTier, join}
 use Rattle.upkeep.proofs.Chained.{chain-in-tiers}
-use Rattle.upkeep.proofs.AgreeTier.{SameTier, same-full, same-liveIn, same-tier-fits, same-lowest, same-free}
-use Rattle.upkeep.proofs.Recounting.{sound-image}
+use Rattle.upkeep.proofs.AgreeTier.{same-tier-fits, same-marks, same-counters, same-free}
+use Rattle.upkeep.proofs.Sound.{sound-image}
 use Rattle.joining.proofs.Ends.{join-joins}
-use Rattle.joining.proofs.Chains.{others-free, longer-chain, shorter-free}
+use Rattle.joining.proofs.Chains.{others-free, longer-chain, other-chain, shorter-free}
 use Rattle.joining.proofs.Fitting.{chains-again}
 use Rattle.joining.proofs.Tiers.{new-marks, new-none, new-live, new-fits, in-chain, old-tier, Before, full-before, pairs-same}
 use Rattle.joining.proofs.Writes.{Joins}
 
-module _ (z : Shape) (img : List ℕ) (s : ℕ) (hs : s < z .settings .segments) (sound : SoundImage z img) (ne : freeHead z img ≢ 0) where
+module _ (z : Shape) (img : List ℕ) (s : ℕ) (hs : s < z .settings .segments) {but : List ℕ} (sound : SoundBut z img but) (ne : freeHead z img ≢ 0) where
   module _ (img′ : List ℕ) (j : Joins z img img′ s (freeHead z img) (lastTier z img s) (length (chain z img s))) where
     keys-again : Below (z .settings .segments) (KeysOnce z img′)
     keys-again q hq u mu i hi fu v mv k hk fv e =
         let a : Before z img s hs sound ne img′ j q u i = full-before z img s hs sound ne img′ j q hq u mu i hi fu in
         let b : Before z img s hs sound ne img′ j q v k = full-before z img s hs sound ne img′ j q hq v mv k hk fv in
-        sound .entries .keysOnce q hq u (a .within) i hi (a .full) v (b .within) k hk (b .full) (sym (a .key) ∙ e ∙ b .key)
+        sound .fits .entries .keysOnce q hq u (a .within) i hi (a .full) v (b .within) k hk (b .full) (sym (a .key) ∙ e ∙ b .key)
 
     entries-again : EntriesFit z img′
     entries-again =
         record {
           tiersFit = λ q hq u m.
               ⊎-elim
-              (λ k. same-tier-fits z img img′ u (old-tier z img s hs sound ne img′ j q hq u k) q (sound .entries .tiersFit q hq u k))
+              (λ k. same-tier-fits z img img′ u (old-tier z img s hs sound ne img′ j q hq u k) q (sound .fits .entries .tiersFit q hq u k))
               (λ (e : u ≡ freeHead z img). rw e (new-fits z img s hs sound ne img′ j q))
               (in-chain z img s hs sound ne img′ j q hq u m);
           keysOnce = keys-again;
         }
 
-    marks-again : Below (z .settings .segments)
-        (λ q. Every (chain z img′ q) (λ u. Below (z .settings .chunks) (λ i. howMany (liveIn z img′ q u) (covers i) ≡ mark z img′ u i)))
-    marks-again q hq u m i hi =
+    marks-again : Below (z .settings .segments) (λ q. Every (chain z img′ q) (MarksFit z img′ q))
+    marks-again q hq u m =
         ⊎-elim
-        (λ k.
-        ap (λ (r : List Live). howMany r (covers i)) (same-liveIn z img img′ u (old-tier z img s hs sound ne img′ j q hq u k) q)
-        ∙ sound .chunks .tiersFit q hq u k .marks i hi
-        ∙ sym (old-tier z img s hs sound ne img′ j q hq u k .marks i hi))
-        (λ (e : u ≡ freeHead z img). rw e (new-live z img s hs sound ne img′ j q i ∙ sym (new-marks z img s hs sound ne img′ j i hi)))
+        (λ k. same-marks z img img′ u (old-tier z img s hs sound ne img′ j q hq u k) q (sound .fits .chunks .marks q hq u k))
+        (λ (e : u ≡ freeHead z img). rw e (λ i hi. new-live z img s hs sound ne img′ j q i ∙ sym (new-marks z img s hs sound ne img′ j i hi)))
         (in-chain z img s hs sound ne img′ j q hq u m)
 
     counters-again : Below (z .settings .segments)
-        (λ q. Every (chain z img′ q) (λ u. u ≢ freeHead z img → (get z img′ (countPlace z u) ≡ length (fullSlots z img′ u)) × LowMarkFits z img′ u))
-    counters-again q hq u m nu =
+        (λ q. Every (chain z img′ q) (λ u. (List·Memᴰ u (freeHead z img ∷ but) → ⊥) → CountersFit z img′ u))
+    counters-again q hq u m out =
         ⊎-elim
         (λ k.
-        let same : SameTier z img img′ u = old-tier z img s hs sound ne img′ j q hq u k in
-        let kept : (get z img′ (countPlace z u) ≡ get z img (countPlace z u)) × (get z img′ (lowPlace z u) ≡ get z img (lowPlace z u)) =
-        j .counts u (chain-in-tiers z img (sound .chains) q u hq k) in (
-          kept .0 ∙ sound .chunks .tiersFit q hq u k .entryCount ∙ sym (ap length (same-full z img img′ u same)),
-          kept .1 ∙ sound .chunks .tiersFit q hq u k .lowMark ∙ sym (same-lowest z img img′ u same),
-        ))
-        (λ e. absurd (nu e))
+        same-counters z img img′ u (old-tier z img s hs sound ne img′ j q hq u k)
+        (j .counts u (chain-in-tiers z img (sound .fits .chains) q u hq k))
+        (sound .fits .chunks .counters q hq u k (λ w. out (List·Memᴰ·tail w))))
+        (λ e. absurd (out (List·Memᴰ·head e)))
         (in-chain z img s hs sound ne img′ j q hq u m)
 
     free-again : Every (freeChain z img′) (FreeTierFits z img′)
     free-again =
-        rw (shorter-free z img s hs (sound .chains) ne img′ j)
+        rw (shorter-free z img s hs (sound .fits .chains) ne img′ j)
         (λ u m.
-        let f : IsExtra z u = sound .chains .freeFits .extras u (others-free z img s hs (sound .chains) ne u m) in
-        same-free z img img′ u (j .sameTiers u (omega arith)) (sound .chunks .freeFit u (others-free z img s hs (sound .chains) ne u m)))
+        let f : IsExtra z u = sound .fits .chains .freeFits .extras u (others-free z img s hs (sound .fits .chains) ne u m) in
+        same-free z img img′ u (j .sameTiers u (omega arith)) (sound .fits .chunks .free u (others-free z img s hs (sound .fits .chains) ne u m)))
 
-    sound-again : SoundBut z img′ (freeHead z img)
+    sound-again : SoundBut z img′ (freeHead z img ∷ but)
     sound-again =
         record {
           bytes = j .image .bytes;
-          valid = sound .valid;
           shape =
               shape-same z img img′ (j .globals headersOffset (omega arith) (omega arith))
               (j .globals bulkCount (omega arith) (omega arith))
               ∙ sound .shape;
-          frame = fits-same z img img′ (j .long) (j .globals storeSize (omega arith) (omega arith)) (sound .frame);
-          chains = chains-again z img s hs (sound .chains) ne img′ j;
-          entries = entries-again;
-          marks = marks-again;
-          counters = counters-again;
-          free = free-again;
+          fits = record {
+            valid = sound .fits .valid;
+            frame = fits-same z img img′ (j .long) (j .globals storeSize (omega arith) (omega arith)) (sound .fits .frame);
+            chains = chains-again z img s hs (sound .fits .chains) ne img′ j;
+            entries = entries-again;
+            chunks = record { marks = marks-again; counters = counters-again; free = free-again };
+          };
         }
 
   -- ---- the results
 
   done : Joins z img (join z img s) s (freeHead z img) (lastTier z img s) (length (chain z img s))
-  done = join-joins z img s hs (sound .chains) ne (sound-image z img sound)
+  done = join-joins z img s hs (sound .fits .chains) ne (sound-image z img sound)
 
-  pub join-sound : SoundBut z (join z img s) (freeHead z img)
+  pub join-sound : SoundBut z (join z img s) (freeHead z img ∷ but)
   join-sound = sound-again (join z img s) done
 
   pub join-chain : chain z (join z img s) s ≡ chain z img s ++ (freeHead z img ∷ [])
-  join-chain = longer-chain z img s hs (sound .chains) ne (join z img s) done
+  join-chain = longer-chain z img s hs (sound .fits .chains) ne (join z img s) done
+
+  -- a chained tier stays in its chain
+  pub join-stays : (q u : ℕ) → q < z .settings .segments → List·Memᴰ u (chain z img q) → List·Memᴰ u (chain z (join z img s) q)
+  join-stays q u hq m =
+      ⊎-elim
+      (λ (e : q ≡ s). subst (λ (x : ℕ). List·Memᴰ u (chain z (join z img s) x)) (sym e)
+      (subst (List·Memᴰ u) (sym join-chain) (Memᴰ·append-left (freeHead z img ∷ []) (subst (λ (x : ℕ). List·Memᴰ u (chain z img x)) e m))))
+      (λ (e : q ≢ s). subst (List·Memᴰ u) (sym (other-chain z img s hs (sound .fits .chains) ne (join z img s) done q hq e)) m)
+      (same-or q s)
 
   pub join-in : List·Memᴰ (freeHead z img) (chain z (join z img s) s)
   join-in = rw join-chain (Memᴰ·append-right (chain z img s) (List·Memᴰ·head refl))

@@ -17,7 +17,7 @@ use Rattle.entries.specs.Live.{slotAt, fullSlots, liveIn}
 use Rattle.search.specs.Search.{slotsOf}
 use Rattle.search.specs.Rules.{keyAt, TierFits}
 use Rattle.chunks.specs.Chunks.{covers, FreeTierFits}
-use Rattle.upkeep.specs.Sound.{Pair, pairsOf, SoundImage}
+use Rattle.upkeep.specs.Sound.{Pair, pairsOf, SoundBut}
 use Rattle.joining.specs.Joining.{lastTier}
 use Rattle.upkeep.proofs.Values.{ifFull, weigh}
 use Rattle.lists.proofs.Totals.{total-same}
@@ -42,15 +42,15 @@ no-members : {A : Type 0} (xs : List A) → length xs ≡ 0 → xs ≡ []
 no-members [] e = refl
 no-members (x ∷ xs) e = absurd (omega arith)
 
-module _ (z : Shape) (img : List ℕ) (s : ℕ) (hs : s < z .settings .segments) (sound : SoundImage z img) (ne : freeHead z img ≢ 0)
+module _ (z : Shape) (img : List ℕ) (s : ℕ) (hs : s < z .settings .segments) {but : List ℕ} (sound : SoundBut z img but) (ne : freeHead z img ≢ 0)
     (img′ : List ℕ) (j : Joins z img img′ s (freeHead z img) (lastTier z img s) (length (chain z img s))) where
   -- ---- the tier that joined
 
   new-same : SameTier z img img′ (freeHead z img)
-  new-same = j .sameTiers (freeHead z img) (new-tier z img s hs (sound .chains) ne)
+  new-same = j .sameTiers (freeHead z img) (new-tier z img s hs (sound .fits .chains) ne)
 
   new-free : FreeTierFits z img (freeHead z img)
-  new-free = sound .chunks .freeFit (freeHead z img) (new-in z img s hs (sound .chains) ne)
+  new-free = sound .fits .chunks .free (freeHead z img) (new-in z img s hs (sound .fits .chains) ne)
 
   pub new-slots : Below (z .settings .slots) (λ k. slotAt z img′ (freeHead z img) k ≡ 0)
   new-slots k h = new-same .slots k h ∙ new-free .slotsEmpty k h
@@ -74,7 +74,7 @@ module _ (z : Shape) (img : List ℕ) (s : ℕ) (hs : s < z .settings .segments)
       record {
         slotsFit =
             record {
-              someEmpty = (0, (omega (arith, sound .valid .slots .1 .0), new-slots 0 (omega (arith, sound .valid .slots .1 .0))));
+              someEmpty = (0, (omega (arith, sound .fits .valid .slots .1 .0), new-slots 0 (omega (arith, sound .fits .valid .slots .1 .0))));
               full = λ k h f. absurd (f (new-slots k h));
             };
         reached = λ k h f. absurd (f (new-slots k h));
@@ -86,13 +86,13 @@ module _ (z : Shape) (img : List ℕ) (s : ℕ) (hs : s < z .settings .segments)
   in-chain q hq u m =
       ⊎-elim
       (λ (e : q ≡ s).
-      let c : chain z img′ q ≡ chain z img q ++ (freeHead z img ∷ []) = rw e (longer-chain z img s hs (sound .chains) ne img′ j) in
+      let c : chain z img′ q ≡ chain z img q ++ (freeHead z img ∷ []) = rw e (longer-chain z img s hs (sound .fits .chains) ne img′ j) in
       ⊎-elim (λ k. inl k) (λ k. inr (List·Memᴰ·eq-of-singleton k)) (List·Memᴰ·append-cases (chain z img q) (rw c at m)))
-      (λ (e : q ≢ s). inl (rw (other-chain z img s hs (sound .chains) ne img′ j q hq e) at m))
+      (λ (e : q ≢ s). inl (rw (other-chain z img s hs (sound .fits .chains) ne img′ j q hq e) at m))
       (same-or q s)
 
   pub old-tier : (q : ℕ) → q < z .settings .segments → (u : ℕ) → List·Memᴰ u (chain z img q) → SameTier z img img′ u
-  old-tier q hq u m = j .sameTiers u (chain-in-tiers z img (sound .chains) q u hq m)
+  old-tier q hq u m = j .sameTiers u (chain-in-tiers z img (sound .fits .chains) q u hq m)
 
   -- a full slot is one of before, with the key of before
   pub record Before (q u k : ℕ) : Type 0 where
@@ -108,7 +108,7 @@ module _ (z : Shape) (img : List ℕ) (s : ℕ) (hs : s < z .settings .segments)
       let e : slotAt z img′ u k ≡ slotAt z img u k = old-tier q hq u o .slots k hk in
       let g : slotAt z img u k ≢ 0 = λ d. f (e ∙ d) in
       let w : Moved z img img′ q u k k =
-      entry-moves z img img′ u (old-tier q hq u o .bytes) q k k e (sound .entries .tiersFit q hq u o .slotsFit .full k hk g) in
+      entry-moves z img img′ u (old-tier q hq u o .bytes) q k k e (sound .fits .entries .tiersFit q hq u o .slotsFit .full k hk g) in
       record { within = o; full = g; key = w .key })
       (λ (e : u ≡ freeHead z img). absurd (f (rw e (new-slots k hk))))
       (in-chain q hq u m)
@@ -117,8 +117,8 @@ module _ (z : Shape) (img : List ℕ) (s : ℕ) (hs : s < z .settings .segments)
 
   old-weigh : (F : Pair → ℕ) → Every (chained z img) (λ u. weigh z img′ F u ≡ weigh z img F u)
   old-weigh F u m =
-      let c : (q : ℕ) × (q < z .settings .segments) × List·Memᴰ u (chain z img q) = chained-in z img (sound .chains) u m in
-      same-weigh z img img′ u (old-tier (c .0) (c .1) u (c .2)) (c .0) (sound .entries .tiersFit (c .0) (c .1) u (c .2) .slotsFit) F
+      let c : (q : ℕ) × (q < z .settings .segments) × List·Memᴰ u (chain z img q) = chained-in z img (sound .fits .chains) u m in
+      same-weigh z img img′ u (old-tier (c .0) (c .1) u (c .2)) (c .0) (sound .fits .entries .tiersFit (c .0) (c .1) u (c .2) .slotsFit) F
 
   pub pairs-same : (F : Pair → ℕ) → total (pairsOf z img′) F ≡ total (pairsOf z img) F
   unfolding total
@@ -127,7 +127,7 @@ module _ (z : Shape) (img : List ℕ) (s : ℕ) (hs : s < z .settings .segments)
         arith,
         pairs-total z img F,
         pairs-total z img′ F,
-        chained-longer z img s hs (sound .chains) ne img′ j (λ xs. total xs (weigh z img′ F)) (total-append (weigh z img′ F)),
+        chained-longer z img s hs (sound .fits .chains) ne img′ j (λ xs. total xs (weigh z img′ F)) (total-append (weigh z img′ F)),
         new-weigh F,
         total-same (chained z img) (weigh z img F) (weigh z img′ F) (old-weigh F),
       )

@@ -9,11 +9,11 @@ use Rattle.lists.specs.Quantify.{Every, every-cons, every-none}
 use Rattle.layout.specs.declared.Shape.{Shape}
 use Rattle.layout.specs.Tiers.{IsTier}
 use Rattle.layout.specs.Places.{Counter, entryCount, lowestFree, nextTier, next, previous, low, segment, order, count, Global, firstFree, usedTiers}
-use Rattle.layout.specs.Places.{globalNo, counterNo, Place, global, tier, counter, wide, partWide, In, get, nextPlace, lowPlace, countPlace, Write, _≔_, puts}
+use Rattle.layout.specs.Places.{globalNo, counterNo, Place, global, tier, counter, wide, partWide, In, get, nextPlace, Write, _≔_, puts}
 use Rattle.layout.specs.Frame.{Image}
 use Rattle.layout.proofs.Places.{written, get-same, get-puts-other, puts-append, image-puts, length-puts, kind, by-kind, shared-in, shared-kind, shared-never, shared-tiers, shared-wide}
 use Rattle.chains.specs.Chains.{nextOf, freeHead}
-use Rattle.upkeep.proofs.AgreeTier.{SameTier}
+use Rattle.upkeep.proofs.AgreeTier.{SameTier, SameCounters}
 use Rattle.joining.proofs.Kept.{joinWrites, next-kept, counter-kept, shared-kept, same-tiers, global-kept}
 
 -- image img′ is img with that done
@@ -30,7 +30,7 @@ pub record Joins (z : Shape) (img img′ : List ℕ) (s t l n : ℕ) : Type 0 wh
   pub orderNew : get z img′ (tier t (counter order)) ≡ n
   pub counters : (f : Counter) → counterNo f ≢ 0 → (u : ℕ) → IsTier z u → u ≢ t → get z img′ (tier u (counter f)) ≡ get z img (tier u (counter f))
   pub sameTiers : (u : ℕ) → IsTier z u → SameTier z img img′ u
-  pub counts : (u : ℕ) → IsTier z u → (get z img′ (countPlace z u) ≡ get z img (countPlace z u)) × (get z img′ (lowPlace z u) ≡ get z img (lowPlace z u))
+  pub counts : (u : ℕ) → IsTier z u → SameCounters z img img′ u
   pub globals : (f : Global) → globalNo f ≢ 1 → globalNo f ≢ 2 → get z img′ (global f) ≡ get z img (global f)
 
 -- a write of a place followed by writes of other places
@@ -147,9 +147,10 @@ module _ {z : Shape} {img : List ℕ} (im : Image z img) (s t l a b n : ℕ) (it
           counters = counter-kept im s t l a b n it il;
           sameTiers = same-tiers im s t l a b n it il;
           counts =
-              λ u iu. (
-                shared-kept im s t l a b n it il entryCount count (omega arith) u iu,
-                shared-kept im s t l a b n it il lowestFree low (omega arith) u iu,
-              );
+              λ u iu.
+              record {
+                count = shared-kept im s t l a b n it il entryCount count (omega arith) u iu;
+                low = shared-kept im s t l a b n it il lowestFree low (omega arith) u iu;
+              };
           globals = global-kept im s t l a b n it il;
         }

@@ -25,7 +25,7 @@ use Rattle.entries.proofs.Slots.{key-with, chunk-with, rest-with, with-fits, wi
 use Rattle.search.specs.Rules.{keyAt}
 use Rattle.upkeep.specs.Sound.{SoundBut}
 use Rattle.upkeep.proofs.Chained.{chain-in-tiers}
-use Rattle.upkeep.proofs.Recounting.{but-image}
+use Rattle.upkeep.proofs.Sound.{sound-image}
 
 -- ---- two lists of bytes, one after the other
 
@@ -38,87 +38,86 @@ bytes-append (x ∷ xs) ys hx hy (suc i) = bytes-append xs ys (λ j. hx (suc j))
 abbrev pub numberFor : Shape → List ℕ → ℕ → ℕ
 numberFor z key c = slotWith (z .settings) (lookupKey (z .settings) key) c
 
-module _ (z : Shape) (img : List ℕ) (s t c : ℕ) (key value : List ℕ) where
-  -- what is known before an entry is placed
-  pub record Places : Type 0 where
-    pub segmentIn : s < z .settings .segments
-    pub sound : SoundBut z img t
-    pub tierIn : List·Memᴰ t (chain z img s)
-    pub keyBytes : Bytes key
-    pub valueBytes : Bytes value
-    pub keyLong : KeyFits (z .settings) (length key)
-    pub valueLong : length value ≤ 65535
-    pub notTooMany : chunksFor (z .settings) (length key) (length value) ≤ z .settings .mostChunks
-    pub segmentIs : segmentOf (z .settings) key ≡ s
-    pub roomy : length (fullSlots z img t) + 2 ≤ z .settings .slots
-    pub rangeEnds : c + chunksFor (z .settings) (length key) (length value) ≤ z .settings .chunks
-    pub clearRun : (i : ℕ) → c ≤ i → i < c + chunksFor (z .settings) (length key) (length value) → mark z img t i ≡ 0
-    pub absent : (u : ℕ) → List·Memᴰ u (chain z img s) → (k : ℕ) → k < z .settings .slots → slotAt z img u k ≢ 0 → keyAt z img u k ≢ key
+-- what is known before an entry is placed
+pub record Places (z : Shape) (img but : List ℕ) (s t c : ℕ) (key value : List ℕ) : Type 0 where
+  pub segmentIn : s < z .settings .segments
+  pub sound : SoundBut z img but
+  pub tierIn : List·Memᴰ t (chain z img s)
+  pub keyBytes : Bytes key
+  pub valueBytes : Bytes value
+  pub keyLong : KeyFits (z .settings) (length key)
+  pub valueLong : length value ≤ 65535
+  pub notTooMany : chunksFor (z .settings) (length key) (length value) ≤ z .settings .mostChunks
+  pub segmentIs : segmentOf (z .settings) key ≡ s
+  pub roomy : length (fullSlots z img t) + 2 ≤ z .settings .slots
+  pub rangeEnds : c + chunksFor (z .settings) (length key) (length value) ≤ z .settings .chunks
+  pub clearRun : (i : ℕ) → c ≤ i → i < c + chunksFor (z .settings) (length key) (length value) → mark z img t i ≡ 0
+  pub absent : (u : ℕ) → List·Memᴰ u (chain z img s) → (k : ℕ) → k < z .settings .slots → slotAt z img u k ≢ 0 → keyAt z img u k ≢ key
 
-  module _ (p : Places) where
-    open Shape z using (settings)
-    open Settings settings using (chunks, chunkSize, slotSize, chunkBits, keyBits)
+module _ {z : Shape} {img but : List ℕ} {s t c : ℕ} {key value : List ℕ} (p : Places z img but s t c key value) where
+  open Shape z using (settings)
+  open Settings settings using (chunks, chunkSize, slotSize, chunkBits, keyBits)
 
-    pub image : Image z img
-    image = but-image z img t (p .sound)
+  pub image : Image z img
+  image = sound-image z img (p .sound)
 
-    pub is-tier : IsTier z t
-    is-tier = chain-in-tiers z img (p .sound .chains) s t (p .segmentIn) (p .tierIn)
+  pub is-tier : IsTier z t
+  is-tier = chain-in-tiers z img (p .sound .fits .chains) s t (p .segmentIn) (p .tierIn)
 
-    -- ---- its chunks and bytes
+  -- ---- its chunks and bytes
 
-    pub some-chunks : 0 < chunksFor settings (length key) (length value)
-    some-chunks = chunks-pos settings (length key) (length value) (omega (arith, p .keyLong)) (p .valueLong) (p .sound .valid)
+  pub some-chunks : 0 < chunksFor settings (length key) (length value)
+  some-chunks = chunks-pos settings (length key) (length value) (omega (arith, p .keyLong)) (p .valueLong) (p .sound .fits .valid)
 
-    pub chunk-in : c < chunks
-    chunk-in = omega (arith, some-chunks, p .rangeEnds)
+  pub chunk-in : c < chunks
+  chunk-in = omega (arith, some-chunks, p .rangeEnds)
 
-    pub entry-fits : length (entryBytes settings key value) ≤ chunksFor settings (length key) (length value) * chunkSize
-    entry-fits =
-        omega (
-          arith,
-          length-entry settings key value,
-          chunks-enough settings (length key) (length value) (omega (arith, p .keyLong)) (p .valueLong) (p .sound .valid),
-        )
+  pub entry-fits : length (entryBytes settings key value) ≤ chunksFor settings (length key) (length value) * chunkSize
+  entry-fits =
+      omega (
+        arith,
+        length-entry settings key value,
+        chunks-enough settings (length key) (length value) (omega (arith, p .keyLong)) (p .valueLong) (p .sound .fits .valid),
+      )
 
-    -- they end within the run, and so within the tier's chunks
-    pub entry-room : length (entryBytes settings key value) ≤ (chunks - c) * chunkSize
-    entry-room =
-        let n : ℕ = chunksFor settings (length key) (length value) in
-        let h : n ≤ chunks - c = omega (arith, p .rangeEnds) in
-        omega (arith, entry-fits, mul-le-mul-right chunkSize h)
+  -- they end within the run, and so within the tier's chunks
+  pub entry-room : length (entryBytes settings key value) ≤ (chunks - c) * chunkSize
+  entry-room =
+      let n : ℕ = chunksFor settings (length key) (length value) in
+      let h : n ≤ chunks - c = omega (arith, p .rangeEnds) in
+      omega (arith, entry-fits, mul-le-mul-right chunkSize h)
 
-    pub entry-end : chunkAt z t c + length (entryBytes settings key value) ≤ chunkAt z t (c + chunksFor settings (length key) (length value))
-    entry-end = omega (arith, entry-fits, chunk-add z t c (chunksFor settings (length key) (length value)))
+  pub entry-end : chunkAt z t c + length (entryBytes settings key value) ≤ chunkAt z t (c + chunksFor settings (length key) (length value))
+  entry-end = omega (arith, entry-fits, chunk-add z t c (chunksFor settings (length key) (length value)))
 
-    pub entry-inside : chunkAt z t c + length (entryBytes settings key value) ≤ chunkAt z t chunks
-    entry-inside = omega (arith, entry-end, chunk-inside z t (c + chunksFor settings (length key) (length value)) (p .rangeEnds))
+  pub entry-inside : chunkAt z t c + length (entryBytes settings key value) ≤ chunkAt z t chunks
+  entry-inside = omega (arith, entry-end, chunk-inside z t (c + chunksFor settings (length key) (length value)) (p .rangeEnds))
 
-    pub entry-bytes : Bytes (entryBytes settings key value)
-    unfolding entryBytes
-    entry-bytes =
-        let k : List ℕ = encode (length key) in
-        let v : List ℕ = encode (length value) in
-        let hk : Bytes k = bytes-encode (length key) (omega (arith, p .keyLong)) in
-        let hv : Bytes v = bytes-encode (length value) (omega (arith, p .valueLong)) in
-        bytes-append (k ++ key ++ v) value (bytes-append (k ++ key) v (bytes-append k key hk (p .keyBytes)) hv) (p .valueBytes)
+  pub entry-bytes : Bytes (entryBytes settings key value)
+  unfolding entryBytes
+  entry-bytes =
+      let k : List ℕ = encode (length key) in
+      let v : List ℕ = encode (length value) in
+      let hk : Bytes k = bytes-encode (length key) (omega (arith, p .keyLong)) in
+      let hv : Bytes v = bytes-encode (length value) (omega (arith, p .valueLong)) in
+      bytes-append (k ++ key ++ v) value (bytes-append (k ++ key) v (bytes-append k key hk (p .keyBytes)) hv) (p .valueBytes)
 
-    -- ---- its slot's number
+  -- ---- its slot's number
 
-    chunk-bits : c < 2 ^ chunkBits
-    chunk-bits = omega (arith, chunk-in, p .sound .valid .chunkBits .1 .1)
+  chunk-bits : c < 2 ^ chunkBits
+  chunk-bits = omega (arith, chunk-in, p .sound .fits .valid .chunkBits .1 .1)
 
-    pub number-full : numberFor z key c ≢ 0
-    number-full = with-full settings (lookupKey settings key) c (lookup-full (p .sound .valid) key)
+  pub number-full : numberFor z key c ≢ 0
+  number-full = with-full settings (lookupKey settings key) c (lookup-full (p .sound .fits .valid) key)
 
-    pub number-fits : numberFor z key c < 256 ^ slotSize
-    number-fits = with-fits settings (lookupKey settings key) c (lookup-lt (p .sound .valid) key) chunk-bits (p .sound .valid)
+  pub number-fits : numberFor z key c < 256 ^ slotSize
+  number-fits = with-fits settings (lookupKey settings key) c (lookup-lt (p .sound .fits .valid) key) chunk-bits (p .sound .fits .valid)
 
-    pub number-key : slotKey settings (numberFor z key c) ≡ lookupKey settings key
-    number-key = key-with settings (lookupKey settings key) c (lookup-lt (p .sound .valid) key)
+  pub number-key : slotKey settings (numberFor z key c) ≡ lookupKey settings key
+  number-key = key-with settings (lookupKey settings key) c (lookup-lt (p .sound .fits .valid) key)
 
-    pub number-chunk : slotChunk settings (numberFor z key c) ≡ c
-    number-chunk = chunk-with settings (lookupKey settings key) c (lookup-lt (p .sound .valid) key) chunk-bits
+  pub number-chunk : slotChunk settings (numberFor z key c) ≡ c
+  number-chunk = chunk-with settings (lookupKey settings key) c (lookup-lt (p .sound .fits .valid) key) chunk-bits
 
-    pub number-rest : slotRest settings (numberFor z key c) ≡ 0
-    number-rest = rest-with settings (lookupKey settings key) c (lookup-lt (p .sound .valid) key) chunk-bits
+  pub number-rest : slotRest settings (numberFor z key c) ≡ 0
+  number-rest = rest-with settings (lookupKey settings key) c (lookup-lt (p .sound .fits .valid) key) chunk-bits

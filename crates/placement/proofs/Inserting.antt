@@ -57,7 +57,7 @@ abbrev pub after : Shape → List ℕ → ℕ → ℕ → List ℕ → List ℕ 
 after z img t c key value =
     filled z img t c (chunksFor (z .settings) (length key) (length value)) (entryBytes (z .settings) key value) (place z img t c key value) (numberFor z key c)
 
-module _ (z : Shape) (img : List ℕ) (s t c : ℕ) (key value : List ℕ) (p : Places z img s t c key value) where
+module _ {z : Shape} {img but : List ℕ} {s t c : ℕ} {key value : List ℕ} (p : Places z img but s t c key value) where
   open Shape z using (settings)
   open Settings settings using (slots)
 
@@ -74,22 +74,22 @@ module _ (z : Shape) (img : List ℕ) (s t c : ℕ) (key value : List ℕ) (p : 
   pub writes : Writes z img t c (chunksFor settings (length key) (length value)) (entryBytes settings key value)
   writes =
       record {
-        image = image z img s t c key value p;
-        tierIn = is-tier z img s t c key value p;
+        image = image p;
+        tierIn = is-tier p;
         ends = p .rangeEnds;
-        bytes = entry-bytes z img s t c key value p;
-        room = entry-room z img s t c key value p;
+        bytes = entry-bytes p;
+        room = entry-room p;
       }
 
   pub after-is : slotted z (written z img t c key value) t c key ≡ after z img t c key value
   unfolding slotted written filled
-  after-is = ap (λ (l : ℕ). put z m (tier t (slot (room (slotsOf z t) m (start settings l)))) v) (sym (number-key z img s t c key value p))
+  after-is = ap (λ (l : ℕ). put z m (tier t (slot (room (slotsOf z t) m (start settings l)))) v) (sym (number-key p))
 
   law : Lawful (slotsOf z t)
-  law = slots-lawful (image z img s t c key value p .framed) t (is-tier z img s t c key value p)
+  law = slots-lawful (image p .framed) t (is-tier p)
 
   pub was-fitting : TierFits z img s t
-  was-fitting = p .sound .entries .tiersFit s (p .segmentIn) t (p .tierIn)
+  was-fitting = p .sound .fits .entries .tiersFit s (p .segmentIn) t (p .tierIn)
 
   same : (j : ℕ) → j < slots → slotAt z m t j ≡ slotAt z img t j
   same = wrote-slot z img t c _ _ writes
@@ -116,12 +116,12 @@ module _ (z : Shape) (img : List ℕ) (s t c : ℕ) (key value : List ℕ) (p : 
   was-good : Good (slotsOf z t) m
   was-good j k hj hk fj on =
       let g : Good (slotsOf z t) img =
-      good z img (image z img s t c key value p) t (is-tier z img s t c key value p) (was-fitting .slotsFit .someEmpty) (was-fitting .reached) in
+      good z img (image p) t (is-tier p) (was-fitting .slotsFit .someEmpty) (was-fitting .reached) in
       rw (same k hk) (g j k hj hk (rw (same j hj) at fj) (rw (same j hj) at on))
 
   pub after-good : Good (slotsOf z t) (after z img t c key value)
   unfolding filled law slots-lawful
-  after-good = insert-good (slotsOf z t) law m v e ok (number-fits z img s t c key value p) (number-full z img s t c key value p) em was-good
+  after-good = insert-good (slotsOf z t) law m v e ok (number-fits p) (number-full p) em was-good
 
   -- ---- one empty slot is left
 
@@ -140,7 +140,7 @@ module _ (z : Shape) (img : List ℕ) (s t c : ℕ) (key value : List ℕ) (p : 
   unfolding filled law slots-lawful
   after-empty =
       let q : (i : ℕ) × Empty (slotsOf z t) (put z m (tier t (slot r)) v) i =
-      inserted-empty (slotsOf z t) law m v e ok (number-fits z img s t c key value p) (number-full z img s t c key value p) em two-empty in
+      inserted-empty (slotsOf z t) law m v e ok (number-fits p) (number-full p) em two-empty in
       (q .0, (q .1 .lt, q .1 .free))
 
   -- ---- a sum over the tier's full slots grows by what the new number adds
@@ -151,8 +151,8 @@ module _ (z : Shape) (img : List ℕ) (s t c : ℕ) (key value : List ℕ) (p : 
   after-total f f′ g =
       omega (
         arith,
-        insert-totals (slotsOf z t) law m v e ok (number-fits z img s t c key value p) (number-full z img s t c key value p) em (ifFull f′),
+        insert-totals (slotsOf z t) law m v e ok (number-fits p) (number-full p) em (ifFull f′),
         empty-is f′ 0 refl,
-        full-is f′ v (number-full z img s t c key value p),
+        full-is f′ v (number-full p),
         table-same z t img m f f′ same g,
       )

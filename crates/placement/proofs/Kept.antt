@@ -89,7 +89,7 @@ whole-is Broken h = absurd h
 chunk-mono : (z : Shape) (t a b : ℕ) → a ≤ b → chunkAt z t a ≤ chunkAt z t b
 chunk-mono z t a b h = omega (arith, chunk-at z t a, chunk-at z t b, mul-le-mul-right (z .settings .chunkSize) h)
 
-module _ (z : Shape) (img : List ℕ) (s t c : ℕ) (key value : List ℕ) (p : Places z img s t c key value) (k : ℕ)
+module _ {z : Shape} {img but : List ℕ} {s t c : ℕ} {key value : List ℕ} (p : Places z img but s t c key value) (k : ℕ)
     (hk : k < z .settings .slots) (fk : slotAt z img t k ≢ 0) where
   open Shape z using (settings)
   open Settings settings using (slots, chunks)
@@ -114,7 +114,7 @@ module _ (z : Shape) (img : List ℕ) (s t c : ℕ) (key value : List ℕ) (p : 
   l = chunksFor settings (e .keyLength) (e .valueLength)
 
   pub was-entry : EntryFits z img s t k
-  was-entry = was-fitting z img s t c key value p .slotsFit .full k hk fk
+  was-entry = was-fitting p .slotsFit .full k hk fk
 
   pub was-stored : stored z img t (chunkOf z img t k) ≡ Whole (entryFor z img t (slotAt z img t k))
   was-stored = whole-is (stored z img t d) (was-entry .whole)
@@ -127,7 +127,7 @@ module _ (z : Shape) (img : List ℕ) (s t c : ℕ) (key value : List ℕ) (p : 
       omega (
         arith,
         p .clearRun i lo hi,
-        p .sound .marks s (p .segmentIn) t (p .tierIn) i (omega (arith, p .rangeEnds)),
+        p .sound .fits .chunks .marks s (p .segmentIn) t (p .tierIn) i (omega (arith, p .rangeEnds)),
         covered-total z img s t i,
         total-has (slotsOf z t) (ifFull (coversOf z img t i)) img slots k hk,
         full-is (coversOf z img t i) v fk,
@@ -137,8 +137,8 @@ module _ (z : Shape) (img : List ℕ) (s t c : ℕ) (key value : List ℕ) (p : 
   -- its bytes are none of those that are written
   ranges : (d + l ≤ c) ⊎ (c + n ≤ d)
   ranges =
-      apart-ranges d l c n (chunks-pos settings (e .keyLength) (e .valueLength) (was-whole .keySmall) (was-whole .valueSmall) (p .sound .valid))
-      (some-chunks z img s t c key value p) not-both
+      apart-ranges d l c n (chunks-pos settings (e .keyLength) (e .valueLength) (was-whole .keySmall) (was-whole .valueSmall) (p .sound .fits .valid))
+      (some-chunks p) not-both
 
   abbrev size : ℕ
   size = entrySize settings (e .keyLength) (e .valueLength)
@@ -148,17 +148,17 @@ module _ (z : Shape) (img : List ℕ) (s t c : ℕ) (key value : List ℕ) (p : 
   range-ends = was-entry .rangeEnds
 
   ends : chunkAt z t d + size ≤ chunkAt z t (d + l)
-  ends = omega (arith, value-ends z img t d was-whole (p .sound .valid), was-whole .valueIs)
+  ends = omega (arith, value-ends z img t d was-whole (p .sound .fits .valid), was-whole .valueIs)
 
   same : cut img (chunkAt z t d) size ≡ cut m′ (chunkAt z t d) size
   same =
       sym
-      (bytes-old z img t c n (entryBytes settings key value) (writes z img s t c key value p) (place z img t c key value) (numberFor z key c)
-      (place-in z img s t c key value p) (chunkAt z t d) size (chunk-mono z t 0 d (omega arith))
+      (bytes-old z img t c n (entryBytes settings key value) (writes p) (place z img t c key value) (numberFor z key c)
+      (place-in p) (chunkAt z t d) size (chunk-mono z t 0 d (omega arith))
       (omega (arith, ends, chunk-inside z t (d + l) range-ends))
       (⊎-elim
       (λ (q : d + l ≤ c). inl (omega (arith, ends, chunk-mono z t (d + l) c q)))
-      (λ (q : c + n ≤ d). inr (omega (arith, entry-end z img s t c key value p, chunk-mono z t (c + n) d q)))
+      (λ (q : c + n ≤ d). inr (omega (arith, entry-end p, chunk-mono z t (c + n) d q)))
       ranges))
 
   -- ---- it reads as before

@@ -29,7 +29,7 @@ use Rattle.placement.proofs.Filling.{slot-new, slot-old, mark-in, mark-
 use Rattle.placement.proofs.Inserting.{place, after, writes, place-in, after-good, after-empty, after-total}
 use Rattle.placement.proofs.Kept.{within, within-in, within-out, coversOf, covered-total, was-entry, was-stored, stored-kept, entry-kept, pair-kept}
 
-module _ (z : Shape) (img : List ℕ) (s t c : ℕ) (key value : List ℕ) (p : Places z img s t c key value) where
+module _ {z : Shape} {img but : List ℕ} {s t c : ℕ} {key value : List ℕ} (p : Places z img but s t c key value) where
   open Shape z using (settings)
   open Settings settings using (slots, chunks)
 
@@ -51,16 +51,16 @@ module _ (z : Shape) (img : List ℕ) (s t c : ℕ) (key value : List ℕ) (p : 
   -- ---- the new slot
 
   slot-here : slotAt z m′ t r ≡ v
-  slot-here = slot-new z img t c n _ (writes z img s t c key value p) r v (place-in z img s t c key value p) (number-fits z img s t c key value p)
+  slot-here = slot-new z img t c n _ (writes p) r v (place-in p) (number-fits p)
 
   whole : (stored z m′ t c ≡ Whole made) × (keyOf m′ made ≡ key) × (valueOf m′ made ≡ value)
   whole =
       stored-whole z m′ t c key value (omega (arith, p .keyLong)) (p .valueLong)
-      (bytes-new z img t c n (entryBytes settings key value) (writes z img s t c key value p) r v (place-in z img s t c key value p))
-      (entry-inside z img s t c key value p)
+      (bytes-new z img t c n (entryBytes settings key value) (writes p) r v (place-in p))
+      (entry-inside p)
 
   stored-here : stored z m′ t (slotChunk settings v) ≡ Whole made
-  stored-here = ap (stored z m′ t) (number-chunk z img s t c key value p) ∙ whole .0
+  stored-here = ap (stored z m′ t) (number-chunk p) ∙ whole .0
 
   pub pair-here : pairFor z (after z img t c key value) t (numberFor z key c) ≡ record { key = key; value = value }
   pair-here =
@@ -75,33 +75,33 @@ module _ (z : Shape) (img : List ℕ) (s t c : ℕ) (key value : List ℕ) (p : 
 
   fits-here : EntryFits z m′ s t r
   fits-here =
-      entry-right z m′ s t r v (slotChunk settings v) (sym slot-here) refl made stored-here (number-rest z img s t c key value p)
+      entry-right z m′ s t r v (slotChunk settings v) (sym slot-here) refl made stored-here (number-rest p)
       (p .keyLong .0) (p .keyLong .1)
-      n refl (p .notTooMany) (rw (number-chunk z img s t c key value p) (p .rangeEnds))
-      (rw (whole .1) (record { segmentAgrees = p .segmentIs; lookupAgrees = sym (number-key z img s t c key value p) }))
+      n refl (p .notTooMany) (rw (number-chunk p) (p .rangeEnds))
+      (rw (whole .1) (record { segmentAgrees = p .segmentIs; lookupAgrees = sym (number-key p) }))
 
   -- ---- any other full slot is one from before
 
   module _ (k : ℕ) (hk : k < slots) (ne : k ≢ r) where
     slot-there : slotAt z m′ t k ≡ slotAt z img t k
-    slot-there = slot-old z img t c n _ (writes z img s t c key value p) r v (place-in z img s t c key value p) k hk ne
+    slot-there = slot-old z img t c n _ (writes p) r v (place-in p) k hk ne
 
     was-full : slotAt z m′ t k ≢ 0 → slotAt z img t k ≢ 0
     was-full f q = f (slot-there ∙ q)
 
     key-there : slotAt z img t k ≢ 0 → keyAt z m′ t k ≡ keyAt z img t k
     unfolding keyAt entryAt
-    key-there f = ap (λ (x : ℕ). pairFor z m′ t x .key) slot-there ∙ ap (λ (x : Pair). x .key) (pair-kept z img s t c key value p k hk f)
+    key-there f = ap (λ (x : ℕ). pairFor z m′ t x .key) slot-there ∙ ap (λ (x : Pair). x .key) (pair-kept p k hk f)
 
     fits-there : slotAt z img t k ≢ 0 → EntryFits z m′ s t k
     unfolding keyAt entryAt
     fits-there f =
         let e : Entry = entryFor z img t (slotAt z img t k) in
-        let was : EntryFits z img s t k = was-entry z img s t c key value p k hk f in
+        let was : EntryFits z img s t k = was-entry p k hk f in
         let same : keyOf m′ e ≡ keyOf img e =
-        ap (keyOf m′) (sym (entry-kept z img s t c key value p k hk f)) ∙ ap (λ (x : Pair). x .key) (pair-kept z img s t c key value p k hk f) in
+        ap (keyOf m′) (sym (entry-kept p k hk f)) ∙ ap (λ (x : Pair). x .key) (pair-kept p k hk f) in
         entry-right z m′ s t k (slotAt z img t k) (chunkOf z img t k) (sym slot-there) refl e
-        (stored-kept z img s t c key value p k hk f ∙ was-stored z img s t c key value p k hk f) (was .higherBits) (was .keyLength .0) (was .keyLength .1)
+        (stored-kept p k hk f ∙ was-stored p k hk f) (was .higherBits) (was .keyLength .0) (was .keyLength .1)
         (chunksFor settings (e .keyLength) (e .valueLength)) refl (was .notTooMany) (was .rangeEnds)
         (subst (Hashed settings s (slotAt z img t k)) (sym same) (was .hashed))
 
@@ -112,12 +112,12 @@ module _ (z : Shape) (img : List ℕ) (s t c : ℕ) (key value : List ℕ) (p : 
       record {
         slotsFit =
             record {
-              someEmpty = after-empty z img s t c key value p;
+              someEmpty = after-empty p;
               full =
                   λ k hk f.
                   ⊎-elim (λ (q : k ≡ r). rw q fits-here) (λ (q : k ≢ r). fits-there k hk q (was-full k hk q f)) (same-or k r);
             };
-        reached = λ j hj fj k hk on. after-good z img s t c key value p j k hj hk fj on;
+        reached = λ j hj fj k hk on. after-good p j k hj hk fj on;
       }
 
   -- ---- the marks
@@ -127,20 +127,20 @@ module _ (z : Shape) (img : List ℕ) (s t c : ℕ) (key value : List ℕ) (p : 
       let same : Below slots (λ j. slotAt z img t j ≢ 0 → coversOf z m′ t i (slotAt z img t j) ≡ coversOf z img t i (slotAt z img t j)) =
       λ j hj f.
       ap (λ (e : Entry). within (chunkOf z img t j) (chunksFor settings (e .keyLength) (e .valueLength)) i)
-      (entry-kept z img s t c key value p j hj f) in
+      (entry-kept p j hj f) in
       let here : coversOf z m′ t i v ≡ within c n i =
       ap (λ (e : Entry). within (slotChunk settings v) (chunksFor settings (e .keyLength) (e .valueLength)) i) (ap entryOf stored-here)
-      ∙ ap (λ (x : ℕ). within x n i) (number-chunk z img s t c key value p) in
+      ∙ ap (λ (x : ℕ). within x n i) (number-chunk p) in
       let sum : howMany (liveIn z m′ s t) (covers i) ≡ mark z img t i + within c n i =
       omega (
         arith,
         covered-total z m′ s t i,
-        after-total z img s t c key value p (coversOf z img t i) (coversOf z m′ t i) same,
+        after-total p (coversOf z img t i) (coversOf z m′ t i) same,
         covered-total z img s t i,
-        p .sound .marks s (p .segmentIn) t (p .tierIn) i hi,
+        p .sound .fits .chunks .marks s (p .segmentIn) t (p .tierIn) i hi,
       ) in
       let out : (i < c) ⊎ (c + n ≤ i) → mark z m′ t i ≡ mark z img t i + within c n i =
-      λ o. omega (arith, mark-out z img t c n _ (writes z img s t c key value p) r v (place-in z img s t c key value p) i hi o, within-out c n i o) in
+      λ o. omega (arith, mark-out z img t c n _ (writes p) r v (place-in p) i hi o, within-out c n i o) in
       sum ∙ sym
       (⊎-elim
       (λ (l : i < c). out (inl l))
@@ -149,7 +149,7 @@ module _ (z : Shape) (img : List ℕ) (s t c : ℕ) (key value : List ℕ) (p : 
       (λ (h : i < c + n).
       omega (
         arith,
-        mark-in z img t c n _ (writes z img s t c key value p) r v (place-in z img s t c key value p) i l h,
+        mark-in z img t c n _ (writes p) r v (place-in p) i l h,
         p .clearRun i l h,
         within-in c n i l h,
       ))
@@ -175,7 +175,7 @@ module _ (z : Shape) (img : List ℕ) (s t c : ℕ) (key value : List ℕ) (p : 
       (λ (b : k ≡ r). absurd (p .absent t (p .tierIn) j hj f (sym (key-there j hj a f) ∙ e ∙ ap (keyAt z m′ t) b ∙ key-here)))
       (λ (b : k ≢ r).
       let g : slotAt z img t k ≢ 0 = was-full k hk b fk in
-      p .sound .entries .keysOnce s (p .segmentIn) t (p .tierIn) j hj f t (p .tierIn) k hk g (sym (key-there j hj a f) ∙ e ∙ key-there k hk b g) .1)
+      p .sound .fits .entries .keysOnce s (p .segmentIn) t (p .tierIn) j hj f t (p .tierIn) k hk g (sym (key-there j hj a f) ∙ e ∙ key-there k hk b g) .1)
       (same-or k r))
       (same-or j r)
 
@@ -186,7 +186,7 @@ module _ (z : Shape) (img : List ℕ) (s t c : ℕ) (key value : List ℕ) (p : 
       (λ (a : j ≡ r). p .absent u mu k hk fk (sym e ∙ ap (keyAt z m′ t) a ∙ key-here))
       (λ (a : j ≢ r).
       let f : slotAt z img t j ≢ 0 = was-full j hj a fj in
-      ne (sym (p .sound .entries .keysOnce s (p .segmentIn) t (p .tierIn) j hj f u mu k hk fk (sym (key-there j hj a f) ∙ e) .0)))
+      ne (sym (p .sound .fits .entries .keysOnce s (p .segmentIn) t (p .tierIn) j hj f u mu k hk fk (sym (key-there j hj a f) ∙ e) .0)))
       (same-or j r)
 
   pub tier-again : TierAgain z img (after z img t c key value) s t

@@ -127,5 +127,9 @@ module _ (z : Shape) (img : List ℕ) (t c n : ℕ) (bs : List ℕ) where
                 bytes = other-bytes u h ne;
               };
           counts =
-              λ u h ne. (filled-get _ (shared-in z _ _ u h) (shared-elsewhere u _ _), filled-get _ (shared-in z _ _ u h) (shared-elsewhere u _ _));
+              λ u h ne.
+              record {
+                count = filled-get _ (shared-in z _ _ u h) (shared-elsewhere u _ _);
+                low = filled-get _ (shared-in z _ _ u h) (shared-elsewhere u _ _);
+              };
         }

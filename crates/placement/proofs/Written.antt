@@ -17,7 +17,6 @@ use Rattle.entries.specs.Keys.{lookupOfHash, lookupKey, start, slotWith}
 use Rattle.entries.specs.Stored.{entryBytes, chunksFor}
 use Rattle.entries.proofs.Sizes.{chunks-pos, chunks-enough, length-entry}
 use Rattle.search.specs.Search.{slotsOf}
-use Rattle.upkeep.specs.Recount.{recount}
 use Rattle.placement.specs.Placement.{written, slotted, placeAt}
 
 module _ {z : Shape} {len : ℕ} (fr : Framed z len) (t c : ℕ) (key value : List ℕ) (hk : length key ≤ 1024) (hv : length value ≤ 65535)
@@ -61,8 +60,7 @@ module _ (z : Shape) (img : List ℕ) (t c : ℕ) (key : List ℕ) where
       ap₂ (λ (k w : ℕ). put z img (tier t (slot k)) w) (ej ∙ ap (λ (x : ℕ). room (slotsOf z t) img (start settings x)) l)
       (ev ∙ ap (λ (x : ℕ). slotWith settings x c) l)
 
-  pub placed-is : (value : List ℕ) {one two three : List ℕ} → one ≡ written z img t c key value → two ≡ slotted z one t c key → three ≡ recount z two t
-      → three ≡ placeAt z img t c key value
+  pub placed-is : (value : List ℕ) {one two : List ℕ} → one ≡ written z img t c key value → two ≡ slotted z one t c key
+      → two ≡ placeAt z img t c key value
   unfolding placeAt
-  placed-is value e₁ e₂ e₃ =
-      e₃ ∙ ap (λ (x : List ℕ). recount z x t) (e₂ ∙ ap (λ (x : List ℕ). slotted z x t c key) e₁)
+  placed-is value e₁ e₂ = e₂ ∙ ap (λ (x : List ℕ). slotted z x t c key) e₁

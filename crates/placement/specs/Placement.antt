@@ -1,5 +1,5 @@
 -- Placement: the run is marked, the entry's own bytes are written in it, the first empty slot from the start slot gets the lookup key and
--- the first chunk, the counters follow.
+-- the first chunk. The counters follow at the end of an edit.
 use Prim.Native.Nat.{ℕ}
 use mathlib.Core.List.{List}
 use lib.ListN.{length}
@@ -10,7 +10,6 @@ use Rattle.probe.specs.Search.{room}
 use Rattle.entries.specs.Keys.{lookupKey, start, slotWith}
 use Rattle.entries.specs.Stored.{entryBytes, chunksFor}
 use Rattle.search.specs.Search.{slotsOf}
-use Rattle.upkeep.specs.Recount.{recount}
 
 module _ (z : Shape) where
   open Shape z using (settings)
@@ -27,4 +26,4 @@ module _ (z : Shape) where
 
   -- the entry goes to tier t, in the chunks from c on
   unfoldable pub placeAt : List ℕ → ℕ → ℕ → List ℕ → List ℕ → List ℕ
-  placeAt img t c key value = recount z (slotted (written img t c key value) t c key) t
+  placeAt img t c key value = slotted (written img t c key value) t c key

@@ -1,4 +1,4 @@
-// An entry placed: its chunks are marked, its bytes written there, the first empty slot from its start slot filled, the counters follow.
+// An entry placed: its chunks are marked, its bytes written there, the first empty slot from its start slot filled.
 use layout::Shape;
 use probe::Cursor;
 use settings::Settings;
@@ -87,5 +87,4 @@ pub fn place_at(z: Shape, img: &mut [u8], t: usize, c: usize, key: &[u8], value:
 {
     write_at(z, img, t, c, key, value);
     fill_slot(z, img, t, c, key);
-    upkeep::recount(z, img, t);
 }

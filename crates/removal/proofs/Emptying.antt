@@ -23,7 +23,6 @@ use Rattle.probe.proofs.Removal.{shift-out, shift-empty, shift-stays, shift-mov
 use Rattle.entries.specs.Keys.{start, slotKey}
 use Rattle.entries.specs.Live.{slotAt}
 use Rattle.search.specs.Search.{slotsOf}
-use Rattle.upkeep.specs.Recount.{recount}
 use Rattle.removal.specs.Removal.{removeAt}
 use Rattle.upkeep.proofs.Framing.{framed-again}
 
@@ -117,9 +116,8 @@ module _ (z : Shape) (t : ℕ) where
                 ∙ w .is;
           })
 
--- the three steps of a removal, where the code has the image after each
-pub removed-at : (z : Shape) (img : List ℕ) (t j c n : ℕ) {one two three : List ℕ} → one ≡ putMarks z img t c n 0 → two ≡ remove (slotsOf z t) one j
-    → three ≡ recount z two t → three ≡ removeAt z img t j c n
+-- the two steps of a removal, where the code has the image after each
+pub removed-at : (z : Shape) (img : List ℕ) (t j c n : ℕ) {one two : List ℕ} → one ≡ putMarks z img t c n 0 → two ≡ remove (slotsOf z t) one j
+    → two ≡ removeAt z img t j c n
 unfolding removeAt
-removed-at z img t j c n e₁ e₂ e₃ =
-    e₃ ∙ ap (λ (x : List ℕ). recount z x t) (e₂ ∙ ap (λ (x : List ℕ). remove (slotsOf z t) x j) e₁)
+removed-at z img t j c n e₁ e₂ = e₂ ∙ ap (λ (x : List ℕ). remove (slotsOf z t) x j) e₁

@@ -20,8 +20,9 @@ use Rattle.search.proofs.Landing.{good}
 use Rattle.upkeep.proofs.Values.{ifFull, full-is, empty-is}
 use Rattle.upkeep.proofs.Sums.{table-same}
 use Rattle.search.proofs.Slots.{slots-lawful}
+use Rattle.removal.specs.Removal.{removeAt}
 use Rattle.removal.proofs.Twice.{total-two, total-once}
-use Rattle.removal.proofs.Slots.{cleared, without, cleared-image, cleared-slot}
+use Rattle.removal.proofs.Slots.{cleared, cleared-image, cleared-slot}
 
 -- 1 where a full slot holds v
 abbrev is-it : ℕ → ℕ → ℕ
@@ -65,7 +66,7 @@ module _ {z : Shape} {img : List ℕ} {s t j c n : ℕ} (w : Removable z img s t
   old = cleared z img t c n
 
   abbrev new : List ℕ
-  new = without z img t j c n
+  new = removeAt z img t j c n
 
   slot-kept : (k : ℕ) → k < slots → slotAt z old t k ≡ slotAt z img t k
   slot-kept = cleared-slot (w .image) t (w .tierIs) j c n (w .slotIn) range-in
@@ -79,7 +80,7 @@ module _ {z : Shape} {img : List ℕ} {s t j c n : ℕ} (w : Removable z img s t
   law = slots-lawful (w .image .framed) t (w .tierIs)
 
   gone : Removed (slotsOf z t) law old j new
-  unfolding slots-lawful
+  unfolding slots-lawful removeAt
   gone =
       let some : SomeEmpty z img t = w .fits .slotsFit .someEmpty in
       removed (slotsOf z t) law old j (some .0)

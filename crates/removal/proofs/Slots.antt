@@ -18,6 +18,7 @@ use Rattle.probe.proofs.Removal.{remove-keeps}
 use Rattle.entries.specs.Live.{slotAt}
 use Rattle.search.specs.Search.{slotsOf}
 use Rattle.search.proofs.Slots.{slots-lawful}
+use Rattle.removal.specs.Removal.{removeAt}
 use Rattle.upkeep.proofs.AgreeTier.{SameBytes}
 use Rattle.upkeep.proofs.Replaced.{OnlyTier}
 
@@ -60,12 +61,9 @@ module _ {z : Shape} {len : ℕ} (framed : Framed z len) (t : ℕ) (is : IsTier 
       remove-keeps (slotsOf z t) (slots-lawful framed t is) (λ m. Stays z img m t) (λ m k v ok hk fit s. stays-put img m k v hk s) img j im h
       (record { image = im; long = refl; places = λ p i ns. refl; marks = λ u i iu k. refl; bytes = λ u iu. refl })
 
--- the marks of n chunks of tier t from c on are cleared, and then the slot j is removed
+-- the marks of n chunks of tier t from c on are cleared
 abbrev pub cleared : Shape → List ℕ → ℕ → ℕ → ℕ → List ℕ
 cleared z img t c n = putMarks z img t c n 0
-
-abbrev pub without : Shape → List ℕ → ℕ → ℕ → ℕ → ℕ → List ℕ
-without z img t j c n = remove (slotsOf z t) (cleared z img t c n) j
 
 module _ {z : Shape} {img : List ℕ} (im : Image z img) (t : ℕ) (is : IsTier z t) (j c n : ℕ) (hj : j < z .settings .slots)
     (fits : c + n ≤ z .settings .chunks) where
@@ -73,7 +71,7 @@ module _ {z : Shape} {img : List ℕ} (im : Image z img) (t : ℕ) (is : IsTier 
   old = cleared z img t c n
 
   abbrev new : List ℕ
-  new = without z img t j c n
+  new = removeAt z img t j c n
 
   pub cleared-image : Image z old
   cleared-image = image-putMarks im t c n 0 (omega arith)
@@ -82,6 +80,7 @@ module _ {z : Shape} {img : List ℕ} (im : Image z img) (t : ℕ) (is : IsTier 
   cleared-slot k hk = get-putMarks-other (im .framed) img t c n 0 (tier t (slot k)) is fits (is, hk) (λ b. by-kind (omega arith))
 
   pub stays : Stays z old new t
+  unfolding removeAt
   stays = remove-stays (im .framed) t is old j cleared-image hj
 
   pub same-place : (p : Place) → In z p → NoSlot t p → NoFree t p → get z new p ≡ get z img p
@@ -107,8 +106,8 @@ module _ {z : Shape} {img : List ℕ} (im : Image z img) (t : ℕ) (is : IsTier 
   pub same-mark : (u i : ℕ) → IsTier z u → u ≢ t → i < z .settings .chunks → mark z new u i ≡ mark z img u i
   same-mark u i iu ne k = stays .marks u i iu k ∙ mark-putMarks-tier (im .framed) img t c n 0 u i is iu ne fits k
 
-  pub without-only : OnlyTier z img new t
-  without-only =
+  pub removeAt-only : OnlyTier z img new t
+  removeAt-only =
       record {
         image = stays .image;
         long = stays .long ∙ length-putMarks z img t c n 0;
@@ -123,5 +122,5 @@ module _ {z : Shape} {img : List ℕ} (im : Image z img) (t : ℕ) (is : IsTier 
               used = same-global usedTiers;
             };
         others = λ u iu ne. record { slots = same-slots u iu ne; marks = λ i k. same-mark u i iu ne k; bytes = same-bytes u iu };
-        counts = λ u iu ne. (same-shared entryCount count u iu, same-shared lowestFree low u iu);
+        counts = λ u iu ne. record { count = same-shared entryCount count u iu; low = same-shared lowestFree low u iu };
       }

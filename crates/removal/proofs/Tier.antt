@@ -9,7 +9,6 @@ use lib.Dec.{leb, ltb}
 use borrow.Author.Tests.{lt-ltb, le-ltb, le-leb, lt-leb}
 use Rattle.lists.specs.Cases.{lt-or}
 use Rattle.lists.specs.Lists.{howMany}
-use Rattle.lists.specs.Quantify.{Below}
 use Rattle.settings.specs.declared.Settings.{Settings}
 use Rattle.layout.specs.declared.Shape.{Shape}
 use Rattle.layout.specs.Places.{mark}
@@ -22,13 +21,14 @@ use Rattle.entries.specs.Stored.{entryOf, keyOf, chunksFor}
 use Rattle.entries.specs.Live.{slotAt, chunkOf, entryAt, liveAt, liveIn}
 use Rattle.search.specs.Search.{slotsOf}
 use Rattle.search.specs.Rules.{keyAt, TierFits, KeysOnce}
-use Rattle.chunks.specs.Chunks.{covers}
+use Rattle.chunks.specs.Chunks.{covers, MarksFit}
+use Rattle.removal.specs.Removal.{removeAt}
 use Rattle.upkeep.proofs.Values.{entryFor, ifFull}
 use Rattle.lists.proofs.Totals.{howMany-total}
 use Rattle.upkeep.proofs.Sums.{liveIn-total}
 use Rattle.upkeep.proofs.AgreeTier.{SameBytes, Moved, same-stored, entry-moves}
 use Rattle.upkeep.proofs.Replaced.{TierAgain}
-use Rattle.removal.proofs.Slots.{cleared, without, stays, same-bytes}
+use Rattle.removal.proofs.Slots.{cleared, stays, same-bytes}
 use Rattle.removal.proofs.Numbers.{Removable, range-in, sums, new-empty, new-good, stood, stood-once}
 
 -- a slot's key by its number alone
@@ -58,7 +58,7 @@ module _ {z : Shape} {img : List ℕ} {s t j c n : ℕ} (w : Removable z img s t
   open Settings settings using (slots, chunks)
 
   abbrev new : List ℕ
-  new = without z img t j c n
+  new = removeAt z img t j c n
 
   pub bytes-same : SameBytes z img new t
   bytes-same = same-bytes (w .image) t (w .tierIs) j c n (w .slotIn) (range-in w) t (w .tierIs)
@@ -144,8 +144,7 @@ module _ {z : Shape} {img : List ℕ} {s t j c n : ℕ} (w : Removable z img s t
   pub mark-out : (i : ℕ) → i < chunks → (i < c) ⊎ (c + n ≤ i) → mark z new t i ≡ mark z img t i
   mark-out i h o = new-mark i h ∙ mark-putMarks-out z img t c n 0 i (omega arith) o
 
-  again-marks : Below chunks (λ i. howMany (liveIn z img s t) (covers i) ≡ mark z img t i)
-      → Below chunks (λ i. howMany (liveIn z new s t) (covers i) ≡ mark z new t i)
+  again-marks : MarksFit z img s t → MarksFit z new s t
   again-marks marks i h =
       ⊎-elim
       (λ (a : i < c). out (inl a))
@@ -159,6 +158,5 @@ module _ {z : Shape} {img : List ℕ} {s t j c n : ℕ} (w : Removable z img s t
       out : (i < c) ⊎ (c + n ≤ i) → howMany (liveIn z new s t) (covers i) ≡ mark z new t i
       out o = omega (arith, fewer i, range-no c n i o, mark-out i h o, marks i h)
 
-  pub again : List·Memᴰ t (chain z img s) → KeysOnce z img s → Below chunks (λ i. howMany (liveIn z img s t) (covers i) ≡ mark z img t i)
-      → TierAgain z img new s t
+  pub again : List·Memᴰ t (chain z img s) → KeysOnce z img s → MarksFit z img s t → TierAgain z img new s t
   again mt once marks = record { fits = again-fits; marks = again-marks marks; own = again-own mt once; apart = again-apart mt once }

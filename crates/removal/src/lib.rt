@@ -1,4 +1,4 @@
-// Removal of an entry: its chunks are cleared, its slot is emptied, later slots move back, the counters follow.
+// Removal of an entry: its chunks are cleared, its slot is emptied, later slots move back.
 use layout::Shape;
 use probe::Cursor;
 use settings::Settings;
@@ -68,5 +68,4 @@ pub fn remove_at(z: Shape, img: &mut [u8], t: usize, j: usize, c: usize, n: usiz
 {
     layout::write::clear_marks(z, img, t, c, n);
     empty_slot(z, img, t, j);
-    upkeep::recount(z, img, t);
 }

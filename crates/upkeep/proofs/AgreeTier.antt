@@ -8,17 +8,19 @@ use mathlib.Core.Option.{Option}
 use native.Mathlib.Omega.{arith}
 use native.Mathlib.Nat.{mul-zero}
 use lib.Dec.{eqb}
+use lib.ListN.{length}
 use Rattle.lists.specs.Cases.{same-or}
-use Rattle.lists.specs.Lists.{below, orElse}
+use Rattle.lists.specs.Lists.{below, howMany, orElse}
 use Rattle.lists.specs.Quantify.{Below}
 use Rattle.lists.proofs.Lists.{span-in}
 use Rattle.words.specs.Bytes.{cut}
 use Rattle.words.proofs.Cuts.{cut-within}
 use Rattle.settings.specs.declared.Settings.{Settings}
 use Rattle.layout.specs.declared.Shape.{Shape}
-use Rattle.layout.specs.Places.{mark, chunkAt}
+use Rattle.layout.specs.Places.{get, mark, chunkAt, countPlace, lowPlace}
 use Rattle.layout.proofs.Chunks.{chunk-at, chunk-rest, chunk-inside, chunk-add}
 use Rattle.entries.specs.declared.Entry.{Entry}
+use Rattle.entries.specs.declared.Live.{Live}
 use Rattle.entries.specs.declared.Stored.{Stored}
 use Rattle.entries.specs.declared.Stored.the-variants.{Whole, Broken}
 use Rattle.entries.specs.Keys.{KeyFits, segmentOf, lookupKey, start, slotChunk, slotKey, slotRest}
@@ -29,7 +31,8 @@ use Rattle.entries.proofs.Whole.{WholeAt, whole-sound, stored-ext, key-before}
 use Rattle.entries.proofs.LiveLists.{fullSlots-in, live-made}
 use Rattle.probe.specs.Ring.{dist}
 use Rattle.search.specs.Rules.{IsWhole, keyAt, EntryFits, SomeEmpty, SlotsFit, TierFits}
-use Rattle.chunks.specs.Chunks.{clear, lowestClear, FreeTierFits}
+use Rattle.chunks.specs.Chunks.{covers, clear, lowestClear, MarksFit, CountersFit, FreeTierFits}
+use Rattle.chunks.proofs.LowMark.{low-mark-same}
 use Rattle.upkeep.specs.Sound.{Pair}
 use Rattle.upkeep.proofs.Values.{entryFor, pairFor, weigh}
 use Rattle.upkeep.proofs.Sums.{table-same}
@@ -45,6 +48,11 @@ pub record SameTier (z : Shape) (img img′ : List ℕ) (u : ℕ) : Type 0 where
   pub slots : Below (z .settings .slots) (λ j. slotAt z img′ u j ≡ slotAt z img u j)
   pub marks : Below (z .settings .chunks) (λ i. mark z img′ u i ≡ mark z img u i)
   pub bytes : SameBytes z img img′ u
+
+-- on its two counters
+pub record SameCounters (z : Shape) (img img′ : List ℕ) (u : ℕ) : Type 0 where
+  pub count : get z img′ (countPlace z u) ≡ get z img (countPlace z u)
+  pub low : get z img′ (lowPlace z u) ≡ get z img (lowPlace z u)
 
 -- what an entry is after a slot's number moved from j to k, where the chunks agree
 pub record Moved (z : Shape) (img img′ : List ℕ) (s u j k : ℕ) : Type 0 where
@@ -196,6 +204,16 @@ module _ (z : Shape) (img img′ : List ℕ) (u : ℕ) where
     same-lowest =
         ap (λ (o : Option ℕ). orElse o chunks)
         (same-first (clear z img′ u) (clear z img u) (below chunks) (λ i m. ap (λ (v : ℕ). eqb v 0) (same .marks i (omega (arith, span-in 0 chunks i m)))))
+
+    pub same-marks : (s : ℕ) → MarksFit z img s u → MarksFit z img′ s u
+    same-marks s f i h = ap (λ (l : List Live). howMany l (covers i)) (same-liveIn s) ∙ f i h ∙ sym (same .marks i h)
+
+    pub same-counters : SameCounters z img img′ u → CountersFit z img u → CountersFit z img′ u
+    same-counters c f =
+        record {
+          entryCount = c .count ∙ f .entryCount ∙ sym (ap length same-full);
+          lowMark = low-mark-same (c .low) same-lowest (f .lowMark);
+        }
 
     pub same-free : FreeTierFits z img u → FreeTierFits z img′ u
     same-free f =

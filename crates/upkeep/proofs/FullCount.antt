@@ -8,6 +8,7 @@ use native.Mathlib.Omega.{arith}
 use lib.Dec.{eqb}
 use lib.ListN.{length}
 use borrow.Author.Tests.{eq-eqb, ne-eqb}
+use Rattle.lists.specs.Cases.{by-test}
 use Rattle.lists.specs.Lists.{span, below, those, howMany}
 use Rattle.lists.proofs.Lists.{howMany-le, length-span}
 use Rattle.lists.proofs.Rows.{howMany-more, howMany-less}
@@ -16,7 +17,7 @@ use Rattle.layout.specs.declared.Shape.{Shape}
 use Rattle.layout.specs.Places.{put, puts, countPlace, lowPlace}
 use Rattle.entries.specs.Live.{slotAt, fullSlots}
 use Rattle.chunks.specs.Chunks.{lowestClear}
-use Rattle.upkeep.specs.Recount.{recount}
+use Rattle.upkeep.specs.Recount.{recount, settle, touched}
 
 module _ (z : Shape) (img : List ℕ) (t : ℕ) where
   open Shape z using (settings)
@@ -55,3 +56,18 @@ module _ (z : Shape) (img : List ℕ) (t : ℕ) where
   unfolding recount puts
   recounted {n} {low} {one} {two} en el e₁ e₂ =
       e₂ ∙ ap₂ (λ (x : List ℕ) (v : ℕ). put z x (lowPlace z t) v) (e₁ ∙ ap (put z img (countPlace z t)) en) el
+
+-- ---- the tiers that an edit changed, one after the other
+
+module _ (z : Shape) (img : List ℕ) {one : List ℕ} (t u : ℕ) (e : one ≡ recount z img t) where
+  pub settled-alone : u ≡ 0 → one ≡ settle z img (touched t u)
+  unfolding settle touched
+  settled-alone q = rw (eq-eqb u 0 q, touched, settle) e
+
+  pub settled-same : u ≡ t → one ≡ settle z img (touched t u)
+  unfolding settle touched
+  settled-same q = by-test (eqb u 0) (λ b. rw (b, touched, settle) e) (λ b. rw (b, eq-eqb u t q, touched, settle) e)
+
+  pub settled-both : u ≢ 0 → u ≢ t → {two : List ℕ} → two ≡ recount z one u → two ≡ settle z img (touched t u)
+  unfolding settle touched
+  settled-both a b e₂ = rw (ne-eqb u 0 a, ne-eqb u t b, touched, settle) (e₂ ∙ ap (λ (x : List ℕ). recount z x u) e)

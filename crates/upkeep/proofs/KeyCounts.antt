@@ -78,12 +78,12 @@ module _ (z : Shape) (img : List ℕ) (sound : SoundImage z img) (key : List ℕ
 
   holds-segment : {s t j : ℕ} → Holds s t j → segmentOf settings key ≡ s
   holds-segment {s} {t} {j} h =
-      rw (← h .key-is) (sound .entries .tiersFit s (h .segmentIn) t (h .tierIn) .slotsFit .full j (h .slotIn) (h .full) .hashed .segmentAgrees)
+      rw (← h .key-is) (sound .fits .entries .tiersFit s (h .segmentIn) t (h .tierIn) .slotsFit .full j (h .slotIn) (h .full) .hashed .segmentAgrees)
 
   holds-once : {s t j s′ t′ j′ : ℕ} → Holds s t j → Holds s′ t′ j′ → (t ≡ t′) × (j ≡ j′)
   holds-once {s} {t} {j} {s′} {t′} {j′} h h′ =
       let e : s′ ≡ s = sym (holds-segment h′) ∙ holds-segment h in
-      sound .entries .keysOnce s (h .segmentIn) t (h .tierIn) j (h .slotIn) (h .full) t′
+      sound .fits .entries .keysOnce s (h .segmentIn) t (h .tierIn) j (h .slotIn) (h .full) t′
       (subst (λ (x : ℕ). List·Memᴰ t′ (chain z img x)) e (h′ .tierIn)) j′ (h′ .slotIn) (h′ .full)
       (h .key-is ∙ sym (h′ .key-is))
 
@@ -126,7 +126,7 @@ module _ (z : Shape) (img : List ℕ) (sound : SoundImage z img) (key : List ℕ
   -- every other tier adds nothing, so that this one gives the whole sum
   other-adds : (s t j : ℕ) → Holds s t j → (u : ℕ) → List·Memᴰ u (chained z img) → u ≢ t → 0 ≡ weigh z img (withKey key) u
   other-adds s t j h u m ne =
-      let c : (r : ℕ) × (r < segments) × List·Memᴰ u (chain z img r) = chained-in z img (sound .chains) u m in
+      let c : (r : ℕ) × (r < segments) × List·Memᴰ u (chain z img r) = chained-in z img (sound .fits .chains) u m in
       ⊎-elim
       (λ (e : weigh z img (withKey key) u ≡ 0). sym e)
       (λ (e : weigh z img (withKey key) u ≢ 0).
@@ -136,10 +136,10 @@ module _ (z : Shape) (img : List ℕ) (sound : SoundImage z img) (key : List ℕ
 
   one-tier : (t : ℕ) → List·Memᴰ t (chained z img) → 0 < weigh z img (withKey key) t → total (chained z img) (weigh z img (withKey key)) ≤ 1
   one-tier t m l =
-      let c : (s : ℕ) × (s < segments) × List·Memᴰ t (chain z img s) = chained-in z img (sound .chains) t m in
+      let c : (s : ℕ) × (s < segments) × List·Memᴰ t (chain z img s) = chained-in z img (sound .fits .chains) t m in
       let h : (j : ℕ) × Holds (c .0) t j = weigh-holds (c .0) t (c .1) (c .2) l in
       let sum : total (chained z img) (λ u. 0) + weigh z img (withKey key) t ≡ total (chained z img) (weigh z img (withKey key)) + 0 =
-      total-change (chained z img) t (weigh z img (withKey key)) (λ u. 0) (chained-once z img (sound .chains) (c .0) t (c .1) (c .2))
+      total-change (chained z img) t (weigh z img (withKey key)) (λ u. 0) (chained-once z img (sound .fits .chains) (c .0) t (c .1) (c .2))
       (other-adds (c .0) t (h .0) (h .1)) in
       omega (arith, sum, total-zero (chained z img), weigh-le (c .0) t (c .1) (c .2))
 

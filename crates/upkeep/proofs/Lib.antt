@@ -5,6 +5,7 @@ pub mod Chained
 pub mod Counts
 pub mod AgreeTier
 pub mod AgreeChains
+pub mod Sound
 pub mod Replaced
 pub mod CountRoom
 pub mod Recounting

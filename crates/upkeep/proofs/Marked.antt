@@ -38,7 +38,7 @@ use Rattle.upkeep.proofs.Values.{pairFor, weigh}
 use Rattle.lists.proofs.Totals.{total-same}
 use Rattle.upkeep.proofs.Sums.{liveIn-total, pairs-total}
 use Rattle.upkeep.proofs.Chained.{chained-in, chain-in-tiers}
-use Rattle.upkeep.proofs.Recounting.{sound-image}
+use Rattle.upkeep.proofs.Sound.{sound-image}
 
 -- ---- numbers below a bound, counted one by one
 
@@ -140,9 +140,9 @@ module _ (z : Shape) (img : List ℕ) where
   tier-needs : (s t : ℕ) → SoundImage z img → s < segments → List·Memᴰ t (chain z img s) → markedIn z img t ≡ weigh z img needs t
   unfolding weigh
   tier-needs s t sound hs m =
-      let fits : SlotsFit z img s t = sound .entries .tiersFit s hs t m .slotsFit in
-      let it : IsTier z t = chain-in-tiers z img (sound .chains) s t hs m in
-      marked-tier t (liveIn z img s t) (sound .chunks .tiersFit s hs t m .marks) (entry-ends s t fits)
+      let fits : SlotsFit z img s t = sound .fits .entries .tiersFit s hs t m .slotsFit in
+      let it : IsTier z t = chain-in-tiers z img (sound .fits .chains) s t hs m in
+      marked-tier t (liveIn z img s t) (sound .fits .chunks .tiersFit s hs t m .marks) (entry-ends s t fits)
       ∙ liveIn-total z img s t (λ e. e .chunks) (λ v. needs (pairFor z img t v))
       (λ j hj full. entry-needs s t j (sound-image z img sound) it (fits .full j hj full))
 
@@ -150,5 +150,5 @@ module _ (z : Shape) (img : List ℕ) where
   unfolding markedChunks
   marked-sum sound =
       total-same (chained z img) (weigh z img needs) (markedIn z img)
-      (λ t m. let c : (s : ℕ) × (s < segments) × List·Memᴰ t (chain z img s) = chained-in z img (sound .chains) t m in tier-needs (c .0) t sound (c .1) (c .2))
+      (λ t m. let c : (s : ℕ) × (s < segments) × List·Memᴰ t (chain z img s) = chained-in z img (sound .fits .chains) t m in tier-needs (c .0) t sound (c .1) (c .2))
       ∙ sym (pairs-total z img needs)

@@ -1,67 +1,39 @@
 -- The counters follow: a tier's entry count and lowest free chunk field, written anew, make the image sound.
 use Prim.Native.Nat.{ℕ, _-_, _/_, _%_, _<_}
-use mathlib.Core.List.{List, [], _∷_, List·Memᴰ}
-use mathlib.Core.Path.{_≡_, ap, sym, _∙_, subst}
+use mathlib.Core.List.{List, [], _∷_, List·Memᴰ, List·Memᴰ·head, List·Memᴰ·tail, List·Memᴰ·cases-cons}
+use mathlib.Core.Path.{_≡_, refl, ap, sym, _∙_, subst}
 use mathlib.Core.Logic.{_≢_, ⊎-elim}
 use native.Mathlib.Omega.{arith}
 use lib.ListN.{length}
 use Rattle.lists.specs.Cases.{same-or}
 use Rattle.lists.specs.Lists.{total}
-use Rattle.lists.specs.Quantify.{every-cons, every-none}
-use Rattle.words.specs.Bytes.{Bytes}
+use Rattle.lists.specs.Quantify.{Every, every-cons, every-none}
 use Rattle.words.specs.Bits.{bitOf}
 use Rattle.settings.specs.declared.Settings.{Settings}
-use Rattle.settings.specs.Rules.{Valid}
 use Rattle.layout.specs.declared.Shape.{Shape}
 use Rattle.layout.specs.Tiers.{IsTier}
 use Rattle.layout.specs.Places.{Global, bulkCount, firstFree, usedTiers, headersOffset, storeSize, globalNo, entryCount, lowestFree, nextTier, Counter, next, low, count, previous, segment, order, Place, global, tier, slot, counter, free, byte, counterNo, In, get, put, nextPlace, lowPlace, countPlace, _≔_, puts}
-use Rattle.layout.specs.Frame.{shapeOf, FrameFits, Framed, Image}
+use Rattle.layout.specs.Frame.{Image}
 use Rattle.layout.proofs.Places.{written, get-same, get-other, get-puts-other, image-put, image-puts, length-puts, shared-in, shared-never, shared-slot, shared-free, shared-byte, shared-tiers, shared-fields}
 use Rattle.layout.proofs.Marks.{mark-get}
 use Rattle.layout.proofs.Chunks.{cut-chunks}
-use Rattle.layout.proofs.Frames.{framed}
 use Rattle.chains.specs.Chains.{chain}
 use Rattle.entries.specs.Live.{fullSlots}
-use Rattle.chunks.specs.Chunks.{lowestClear}
+use Rattle.chunks.specs.Chunks.{lowestClear, CountersFit}
+use Rattle.chunks.proofs.LowMark.{low-mark-exact}
 use Rattle.upkeep.specs.Sound.{Pair, pairsOf, SoundImage, SoundBut}
-use Rattle.upkeep.specs.Recount.{recount}
+use Rattle.upkeep.specs.Recount.{recount, settle}
+use Rattle.upkeep.proofs.Sound.{sound-image, but-sound}
 use Rattle.upkeep.proofs.Chained.{chain-in-tiers}
 use Rattle.upkeep.proofs.CountRoom.{count-room, low-room, full-few, lowest-few}
 use Rattle.upkeep.proofs.AgreeTier.{SameTier, same-full, same-lowest, same-weigh}
-use Rattle.upkeep.proofs.AgreeChains.{SameChains}
+use Rattle.upkeep.proofs.AgreeChains.{SameChains, same-chain}
 use Rattle.upkeep.proofs.Replaced.{OnlyTier, tier-stays, tier-replaced, pairs-replaced}
 
--- ---- sound, sound but for a tier's counters, and the frame
-
-module _ (z : Shape) (img : List ℕ) where
-  image-of : Bytes img → Valid (z .settings) → shapeOf (z .settings) img ≡ z → FrameFits z img → Image z img
-  image-of b v e f =
-      record {
-        bytes = b;
-        framed = subst (λ (y : Shape). Framed y (length img)) e (framed (z .settings) img v (subst (λ (y : Shape). FrameFits y img) (sym e) f));
-      }
-
-  pub sound-but : SoundImage z img → (t : ℕ) → SoundBut z img t
-  sound-but s t =
-      record {
-        bytes = s .bytes;
-        valid = s .valid;
-        shape = s .shape;
-        frame = s .frame;
-        chains = s .chains;
-        entries = s .entries;
-        marks = λ x h u m. s .chunks .tiersFit x h u m .marks;
-        counters = λ x h u m _. (s .chunks .tiersFit x h u m .entryCount, s .chunks .tiersFit x h u m .lowMark);
-        free = s .chunks .freeFit;
-      }
-
-  pub sound-image : SoundImage z img → Image z img
-  sound-image s = image-of (s .bytes) (s .valid) (s .shape) (s .frame)
-
-  pub but-image : (t : ℕ) → SoundBut z img t → Image z img
-  but-image t s = image-of (s .bytes) (s .valid) (s .shape) (s .frame)
-
 -- ---- what the two writes keep
+
+drop-other : {t u : ℕ} {ts : List ℕ} → u ≢ t → List·Memᴰ u (t ∷ ts) → List·Memᴰ u ts
+drop-other ne m = ⊎-elim (λ e. absurd (ne e)) (λ k. k) (List·Memᴰ·cases-cons m)
 
 global-lt : (f : Global) → globalNo f < 5
 global-lt bulkCount = omega arith
@@ -70,7 +42,8 @@ global-lt usedTiers = omega arith
 global-lt headersOffset = omega arith
 global-lt storeSize = omega arith
 
-module _ (z : Shape) (img : List ℕ) (s t : ℕ) (hs : s < z .settings .segments) (sound : SoundBut z img t) (m : List·Memᴰ t (chain z img s)) where
+module _ (z : Shape) (img : List ℕ) (s t : ℕ) (hs : s < z .settings .segments) {but : List ℕ} (sound : SoundBut z img (t ∷ but))
+    (m : List·Memᴰ t (chain z img s)) where
   open Shape z using (settings)
   open Settings settings using (segments, slots, chunks, chunkSize)
 
@@ -78,10 +51,10 @@ module _ (z : Shape) (img : List ℕ) (s t : ℕ) (hs : s < z .settings .segment
   after = recount z img t
 
   im : Image z img
-  im = but-image z img t sound
+  im = sound-image z img sound
 
   it : IsTier z t
-  it = chain-in-tiers z img (sound .chains) s t hs m
+  it = chain-in-tiers z img (sound .fits .chains) s t hs m
 
   long : length after ≡ length img
   unfolding recount
@@ -153,14 +126,17 @@ module _ (z : Shape) (img : List ℕ) (s t : ℕ) (hs : s < z .settings .segment
         chains = keeps-chains;
         others = λ u is _. keeps-tier u is;
         counts =
-            λ u is ne. (
-              keeps (countPlace z u) (shared-in z entryCount count u is)
+            λ u is ne.
+            record {
+              count =
+                  keeps (countPlace z u) (shared-in z entryCount count u is)
                   (shared-tiers z entryCount count t u (it .0) (is .0) (λ e. ne (sym e)))
-                  (shared-fields z lowestFree entryCount low count t u (omega arith) (omega arith)),
-              keeps (lowPlace z u) (shared-in z lowestFree low u is)
+                  (shared-fields z lowestFree entryCount low count t u (omega arith) (omega arith));
+              low =
+                  keeps (lowPlace z u) (shared-in z lowestFree low u is)
                   (shared-fields z entryCount lowestFree count low t u (omega arith) (omega arith))
-                  (shared-tiers z lowestFree low t u (it .0) (is .0) (λ e. ne (sym e))),
-            );
+                  (shared-tiers z lowestFree low t u (it .0) (is .0) (λ e. ne (sym e)));
+            };
       }
 
   pub recount-tier : SameTier z img (recount z img t) t
@@ -174,38 +150,44 @@ module _ (z : Shape) (img : List ℕ) (s t : ℕ) (hs : s < z .settings .segment
       get-other (im .framed) (put z img (countPlace z t) (length (fullSlots z img t))) (lowPlace z t) (lowestClear z img t) (countPlace z t)
       (shared-in z lowestFree low t it) (shared-in z entryCount count t it) (shared-fields z entryCount lowestFree count low t t (omega arith) (omega arith))
       ∙ get-same im (countPlace z t) (length (fullSlots z img t)) (shared-in z entryCount count t it)
-      (omega (arith, count-room z t, full-few z img t, sound .valid .slots .1))
+      (omega (arith, count-room z t, full-few z img t, sound .fits .valid .slots .1))
 
   low-written : get z after (lowPlace z t) ≡ lowestClear z img t
   unfolding recount puts
   low-written =
       get-same (image-put im (countPlace z t) (length (fullSlots z img t))) (lowPlace z t) (lowestClear z img t) (shared-in z lowestFree low t it)
-      (omega (arith, low-room z t, lowest-few z img t, sound .valid .chunks))
+      (omega (arith, low-room z t, lowest-few z img t, sound .fits .valid .chunks))
 
-  pub recount-sound : SoundImage z (recount z img t)
-  recount-sound =
-      let but : SoundBut z after t = tier-replaced z img s t hs sound m after recount-only (tier-stays z img s t hs sound m after recount-tier) in
+  written-counters : CountersFit z after t
+  written-counters =
       record {
-        bytes = but .bytes;
-        valid = but .valid;
-        shape = but .shape;
-        frame = but .frame;
-        chains = but .chains;
-        entries = but .entries;
-        chunks =
-            record {
-              tiersFit =
-                  λ s′ h u mu.
-                  let counters : (get z after (countPlace z u) ≡ length (fullSlots z after u)) × (get z after (lowPlace z u) ≡ lowestClear z after u) =
-                  ⊎-elim
-                  (λ (e : u ≡ t).
-                  rw e
-                  (count-written ∙ ap length (sym (same-full z img after t recount-tier)), low-written ∙ sym (same-lowest z img after t recount-tier)))
-                  (λ (ne : u ≢ t). but .counters s′ h u mu ne)
-                  (same-or u t) in
-                  record { marks = but .marks s′ h u mu; entryCount = counters .0; lowMark = counters .1 };
-              freeFit = but .free;
-            };
+        entryCount = count-written ∙ ap length (sym (same-full z img after t recount-tier));
+        lowMark = low-mark-exact (low-written ∙ sym (same-lowest z img after t recount-tier));
+      }
+
+  pub recount-sound : SoundBut z (recount z img t) but
+  recount-sound =
+      let again : SoundBut z after (t ∷ t ∷ but) =
+      tier-replaced z img s t hs sound m after recount-only (tier-stays z img s t hs sound m after recount-tier) in
+      record {
+        bytes = again .bytes;
+        shape = again .shape;
+        fits = record {
+          valid = again .fits .valid;
+          frame = again .fits .frame;
+          chains = again .fits .chains;
+          entries = again .fits .entries;
+          chunks = record {
+            marks = again .fits .chunks .marks;
+            counters =
+                λ s′ h u mu out.
+                ⊎-elim
+                (λ (e : u ≡ t). rw e written-counters)
+                (λ (ne : u ≢ t). again .fits .chunks .counters s′ h u mu (λ k. out (drop-other ne (drop-other ne k))))
+                (same-or u t);
+            free = again .fits .chunks .free;
+          };
+        };
       }
 
   pub recount-pairs : (F : Pair → ℕ) → total (pairsOf z (recount z img t)) F ≡ total (pairsOf z img) F
@@ -213,5 +195,37 @@ module _ (z : Shape) (img : List ℕ) (s t : ℕ) (hs : s < z .settings .segment
       omega (
         arith,
         pairs-replaced z img s t hs sound m after recount-only F,
-        same-weigh z img after t recount-tier s (sound .entries .tiersFit s hs t m .slotsFit) F,
+        same-weigh z img after t recount-tier s (sound .fits .entries .tiersFit s hs t m .slotsFit) F,
       )
+
+-- ---- the counters of several tiers
+
+-- t stands in some segment's chain
+abbrev pub IsChained : Shape → List ℕ → ℕ → Type 0
+IsChained z img t = (s : ℕ) × ((s < z .settings .segments) × List·Memᴰ t (chain z img s))
+
+module _ (z : Shape) where
+  recount-chained : (img : List ℕ) (t : ℕ) {but : List ℕ} → SoundBut z img (t ∷ but) → IsChained z img t → (u : ℕ) → IsChained z img u
+      → IsChained z (recount z img t) u
+  recount-chained img t sound c u d =
+      let same : chain z (recount z img t) (d .0) ≡ chain z img (d .0) =
+      same-chain z img (recount z img t) (sound .fits .chains) (recount-only z img (c .0) t (c .1 .0) sound (c .1 .1) .chains) (d .0) (d .1 .0) in
+      (d .0, (d .1 .0, subst (List·Memᴰ u) (sym same) (d .1 .1)))
+
+  pub settle-sound : (ts img : List ℕ) → SoundBut z img ts → Every ts (IsChained z img) → SoundImage z (settle z img ts)
+  unfolding settle
+  settle-sound [] img sound c = but-sound z img sound
+  settle-sound (t ∷ ts) img sound c =
+      let here : IsChained z img t = c t (List·Memᴰ·head refl) in
+      settle-sound ts (recount z img t) (recount-sound z img (here .0) t (here .1 .0) sound (here .1 .1))
+      (λ u m. recount-chained img t sound here u (c u (List·Memᴰ·tail m)))
+
+  pub settle-pairs : (ts img : List ℕ) → SoundBut z img ts → Every ts (IsChained z img) → (F : Pair → ℕ)
+      → total (pairsOf z (settle z img ts)) F ≡ total (pairsOf z img) F
+  unfolding settle
+  settle-pairs [] img sound c F = refl
+  settle-pairs (t ∷ ts) img sound c F =
+      let here : IsChained z img t = c t (List·Memᴰ·head refl) in
+      settle-pairs ts (recount z img t) (recount-sound z img (here .0) t (here .1 .0) sound (here .1 .1))
+      (λ u m. recount-chained img t sound here u (c u (List·Memᴰ·tail m))) F
+      ∙ recount-pairs z img (here .0) t (here .1 .0) sound (here .1 .1) F

@@ -1,31 +1,30 @@
 -- One tier is changed and nothing else: what must be known of it so that the image stays sound.
 use Prim.Native.Nat.{ℕ, _+_, _<_}
-use mathlib.Core.List.{List, List·Memᴰ}
+use mathlib.Core.List.{List, _∷_, List·Memᴰ, List·Memᴰ·head, List·Memᴰ·tail}
 use mathlib.Core.Path.{_≡_, refl, ap, sym, _∙_, subst}
 use mathlib.Core.Logic.{_≢_, ⊎-elim}
 use native.Mathlib.Omega.{arith}
 use lib.ListN.{length}
 use Rattle.lists.specs.Cases.{same-or}
-use Rattle.lists.specs.Lists.{howMany, total}
+use Rattle.lists.specs.Lists.{total}
 use Rattle.lists.specs.Quantify.{Below, Every}
 use Rattle.settings.specs.declared.Settings.{Settings}
 use Rattle.layout.specs.declared.Shape.{Shape}
 use Rattle.layout.specs.Tiers.{IsTier}
-use Rattle.layout.specs.Places.{Global, bulkCount, headersOffset, storeSize, get, mark, global, countPlace, lowPlace}
+use Rattle.layout.specs.Places.{Global, bulkCount, headersOffset, storeSize, get, global}
 use Rattle.layout.specs.Frame.{Image}
 use Rattle.layout.proofs.Frames.{shape-same, fits-same}
 use Rattle.chains.specs.Chains.{chain, freeChain, chained}
 use Rattle.chains.proofs.Along.{free-tiers}
-use Rattle.entries.specs.declared.Live.{Live}
-use Rattle.entries.specs.Live.{slotAt, liveIn}
+use Rattle.entries.specs.Live.{slotAt}
 use Rattle.search.specs.Rules.{keyAt, TierFits, KeyOnce, KeysOnce, EntriesFit}
-use Rattle.chunks.specs.Chunks.{covers}
+use Rattle.chunks.specs.Chunks.{MarksFit, CountersFit}
 use Rattle.upkeep.specs.Sound.{Pair, pairsOf, SoundBut}
 use Rattle.upkeep.proofs.Values.{weigh}
 use Rattle.lists.proofs.Totals.{total-change}
 use Rattle.upkeep.proofs.Sums.{pairs-total}
 use Rattle.upkeep.proofs.Chained.{chain-segment, free-not-chained, chained-once, chained-in, chain-in-tiers}
-use Rattle.upkeep.proofs.AgreeTier.{SameTier, Moved, entry-moves, same-full, same-liveIn, same-tier-fits, same-lowest, same-free, same-weigh}
+use Rattle.upkeep.proofs.AgreeTier.{SameTier, SameCounters, Moved, entry-moves, same-tier-fits, same-marks, same-counters, same-free, same-weigh}
 use Rattle.upkeep.proofs.AgreeChains.{SameChains, same-chain, same-freeChain, same-chained, same-chains-fit}
 
 pub record OnlyTier (z : Shape) (img img′ : List ℕ) (t : ℕ) : Type 0 where
@@ -34,13 +33,12 @@ pub record OnlyTier (z : Shape) (img img′ : List ℕ) (t : ℕ) : Type 0 where
   pub globals : (f : Global) → get z img′ (global f) ≡ get z img (global f)
   pub chains : SameChains z img img′
   pub others : (u : ℕ) → IsTier z u → u ≢ t → SameTier z img img′ u
-  pub counts : (u : ℕ) → IsTier z u → u ≢ t
-      → (get z img′ (countPlace z u) ≡ get z img (countPlace z u)) × (get z img′ (lowPlace z u) ≡ get z img (lowPlace z u))
+  pub counts : (u : ℕ) → IsTier z u → u ≢ t → SameCounters z img img′ u
 
 -- what must be known of the changed tier
 pub record TierAgain (z : Shape) (img img′ : List ℕ) (s t : ℕ) : Type 0 where
   pub fits : TierFits z img′ s t
-  pub marks : Below (z .settings .chunks) (λ i. howMany (liveIn z img′ s t) (covers i) ≡ mark z img′ t i)
+  pub marks : MarksFit z img′ s t
   -- no key is there twice
   pub own : (j k : ℕ) → j < z .settings .slots → k < z .settings .slots → slotAt z img′ t j ≢ 0 → slotAt z img′ t k ≢ 0
       → keyAt z img′ t j ≡ keyAt z img′ t k → j ≡ k
@@ -49,24 +47,23 @@ pub record TierAgain (z : Shape) (img img′ : List ℕ) (s t : ℕ) : Type 0 wh
       → slotAt z img′ t j ≢ 0 → slotAt z img u k ≢ 0
       → keyAt z img′ t j ≢ keyAt z img u k
 
-module _ (z : Shape) (img : List ℕ) (s t : ℕ) (hs : s < z .settings .segments) (sound : SoundBut z img t) (m : List·Memᴰ t (chain z img s)) where
+module _ (z : Shape) (img : List ℕ) (s t : ℕ) (hs : s < z .settings .segments) {but : List ℕ} (sound : SoundBut z img but)
+    (m : List·Memᴰ t (chain z img s)) where
   open Shape z using (settings)
   open Settings settings using (segments, slots, chunks)
 
   -- a tier that was not changed
   pub tier-stays : (img′ : List ℕ) → SameTier z img img′ t → TierAgain z img img′ s t
   tier-stays img′ same =
-      let fits : TierFits z img s t = sound .entries .tiersFit s hs t m in
+      let fits : TierFits z img s t = sound .fits .entries .tiersFit s hs t m in
       let full : (j : ℕ) → j < z .settings .slots → slotAt z img′ t j ≢ 0 → slotAt z img t j ≢ 0 = λ j h ne e. ne (same .slots j h ∙ e) in
       let key : (j : ℕ) → j < z .settings .slots → slotAt z img′ t j ≢ 0 → keyAt z img′ t j ≡ keyAt z img t j =
       λ j h ne. entry-moves z img img′ t (same .bytes) s j j (same .slots j h) (fits .slotsFit .full j h (full j h ne)) .key in
       record {
         fits = same-tier-fits z img img′ t same s fits;
-        marks =
-            λ i h.
-            ap (λ (l : List Live). howMany l (covers i)) (same-liveIn z img img′ t same s) ∙ sound .marks s hs t m i h ∙ sym (same .marks i h);
-        own = λ j k hj hk fj fk e. sound .entries .keysOnce s hs t m j hj (full j hj fj) t m k hk (full k hk fk) (sym (key j hj fj) ∙ e ∙ key k hk fk) .1;
-        apart = λ u mu ne j k hj hk fj fk e. ne (sym (sound .entries .keysOnce s hs t m j hj (full j hj fj) u mu k hk fk (sym (key j hj fj) ∙ e) .0));
+        marks = same-marks z img img′ t same s (sound .fits .chunks .marks s hs t m);
+        own = λ j k hj hk fj fk e. sound .fits .entries .keysOnce s hs t m j hj (full j hj fj) t m k hk (full k hk fk) (sym (key j hj fj) ∙ e ∙ key k hk fk) .1;
+        apart = λ u mu ne j k hj hk fj fk e. ne (sym (sound .fits .entries .keysOnce s hs t m j hj (full j hj fj) u mu k hk fk (sym (key j hj fj) ∙ e) .0));
       }
 
   module _ (img′ : List ℕ) (only : OnlyTier z img img′ t) where
@@ -74,20 +71,20 @@ module _ (z : Shape) (img : List ℕ) (s t : ℕ) (hs : s < z .settings .segment
     by-tier : (P : ℕ → ℕ → Type 0) → P s t → (s′ : ℕ) → s′ < segments → ((u : ℕ) → List·Memᴰ u (chain z img s′) → u ≢ t → P s′ u)
         → Every (chain z img′ s′) (P s′)
     by-tier P p s′ h f u mu =
-        let mu₀ : List·Memᴰ u (chain z img s′) = subst (List·Memᴰ u) (same-chain z img img′ (sound .chains) (only .chains) s′ h) mu in
+        let mu₀ : List·Memᴰ u (chain z img s′) = subst (List·Memᴰ u) (same-chain z img img′ (sound .fits .chains) (only .chains) s′ h) mu in
         ⊎-elim
         (λ (e : u ≡ t).
-        let same : s ≡ s′ = chain-segment z img (sound .chains) s s′ t hs h m (subst (λ (x : ℕ). List·Memᴰ x (chain z img s′)) e mu₀) in
+        let same : s ≡ s′ = chain-segment z img (sound .fits .chains) s s′ t hs h m (subst (λ (x : ℕ). List·Memᴰ x (chain z img s′)) e mu₀) in
         subst (λ (x : ℕ). P x u) same (subst (P s) (sym e) p))
         (λ (ne : u ≢ t). f u mu₀ ne)
         (same-or u t)
 
     module _ (s′ : ℕ) (h : s′ < segments) (u : ℕ) (mu : List·Memᴰ u (chain z img s′)) (ne : u ≢ t) where
       other : SameTier z img img′ u
-      other = only .others u (chain-in-tiers z img (sound .chains) s′ u h mu) ne
+      other = only .others u (chain-in-tiers z img (sound .fits .chains) s′ u h mu) ne
 
       other-fits : TierFits z img s′ u
-      other-fits = sound .entries .tiersFit s′ h u mu
+      other-fits = sound .fits .entries .tiersFit s′ h u mu
 
       -- a full slot was full and stands for the same key
       other-full : (k : ℕ) → k < slots → slotAt z img′ u k ≢ 0 → slotAt z img u k ≢ 0
@@ -121,7 +118,7 @@ module _ (z : Shape) (img : List ℕ) (s t : ℕ) (hs : s < z .settings .segment
           (λ mv k hk fk e. absurd (a .apart v mv ne k j hk hj fk fv (sym e ∙ ev)))
           s′ h
           (λ u mu nu mv k hk fk e.
-          sound .entries .keysOnce s′ h v mv j hj fv u mu k hk (other-full s′ h u mu nu k hk fk) (sym ev ∙ e ∙ other-key s′ h u mu nu k hk fk))
+          sound .fits .entries .keysOnce s′ h v mv j hj fv u mu k hk (other-full s′ h u mu nu k hk fk) (sym ev ∙ e ∙ other-key s′ h u mu nu k hk fk))
           u mu mv
 
       keys-once : (s′ : ℕ) → s′ < segments → KeysOnce z img′ s′
@@ -138,48 +135,52 @@ module _ (z : Shape) (img : List ℕ) (s t : ℕ) (hs : s < z .settings .segment
             keysOnce = keys-once;
           }
 
-    pub tier-replaced : TierAgain z img img′ s t → SoundBut z img′ t
+    counters-again : Below segments (λ s′. Every (chain z img′ s′) (λ u. (List·Memᴰ u (t ∷ but) → ⊥) → CountersFit z img′ u))
+    counters-again s′ h u mu out =
+        let mu₀ : List·Memᴰ u (chain z img s′) = subst (List·Memᴰ u) (same-chain z img img′ (sound .fits .chains) (only .chains) s′ h) mu in
+        let is : IsTier z u = chain-in-tiers z img (sound .fits .chains) s′ u h mu₀ in
+        let ne : u ≢ t = λ e. out (List·Memᴰ·head e) in
+        same-counters z img img′ u (only .others u is ne) (only .counts u is ne)
+        (sound .fits .chunks .counters s′ h u mu₀ (λ k. out (List·Memᴰ·tail k)))
+
+    pub tier-replaced : TierAgain z img img′ s t → SoundBut z img′ (t ∷ but)
     tier-replaced a =
-        let free-is : freeChain z img′ ≡ freeChain z img = same-freeChain z img img′ (sound .chains) (only .chains) in
+        let free-is : freeChain z img′ ≡ freeChain z img = same-freeChain z img img′ (sound .fits .chains) (only .chains) in
         record {
           bytes = only .image .bytes;
-          valid = sound .valid;
           shape = shape-same z img img′ (only .globals headersOffset) (only .globals bulkCount) ∙ sound .shape;
-          frame = fits-same z img img′ (only .long) (only .globals storeSize) (sound .frame);
-          chains = same-chains-fit z img img′ (sound .chains) (only .chains);
-          entries = entries-fit a;
-          marks =
-              λ s′ h.
-              by-tier (λ x u. Below chunks (λ i. howMany (liveIn z img′ x u) (covers i) ≡ mark z img′ u i)) (a .marks) s′ h
-              (λ u mu ne i hi.
-              ap (λ (l : List Live). howMany l (covers i)) (same-liveIn z img img′ u (other s′ h u mu ne) s′)
-              ∙ sound .marks s′ h u mu i hi
-              ∙ sym (other s′ h u mu ne .marks i hi));
-          counters =
-              λ s′ h u mu ne.
-              let mu₀ : List·Memᴰ u (chain z img s′) = subst (List·Memᴰ u) (same-chain z img img′ (sound .chains) (only .chains) s′ h) mu in
-              let is : IsTier z u = chain-in-tiers z img (sound .chains) s′ u h mu₀ in (
-                only .counts u is ne .0 ∙ sound .counters s′ h u mu₀ ne .0 ∙ ap length (sym (same-full z img img′ u (only .others u is ne))),
-                only .counts u is ne .1 ∙ sound .counters s′ h u mu₀ ne .1 ∙ sym (same-lowest z img img′ u (only .others u is ne)),
-              );
-          free =
-              λ u mu.
-              let mu₀ : List·Memᴰ u (freeChain z img) = subst (List·Memᴰ u) free-is mu in
-              let is : IsTier z u = free-tiers z img (sound .chains .freeFits) u mu₀ in
-              same-free z img img′ u (only .others u is (free-not-chained z img (sound .chains) s t u hs m mu₀)) (sound .free u mu₀);
+          fits = record {
+            valid = sound .fits .valid;
+            frame = fits-same z img img′ (only .long) (only .globals storeSize) (sound .fits .frame);
+            chains = same-chains-fit z img img′ (sound .fits .chains) (only .chains);
+            entries = entries-fit a;
+            chunks = record {
+              marks =
+                  λ s′ h.
+                  by-tier (MarksFit z img′) (a .marks) s′ h
+                  (λ u mu ne. same-marks z img img′ u (other s′ h u mu ne) s′ (sound .fits .chunks .marks s′ h u mu));
+              counters = counters-again;
+              free =
+                  λ u mu.
+                  let mu₀ : List·Memᴰ u (freeChain z img) = subst (List·Memᴰ u) free-is mu in
+                  let is : IsTier z u = free-tiers z img (sound .fits .chains .freeFits) u mu₀ in
+                  same-free z img img′ u (only .others u is (free-not-chained z img (sound .fits .chains) s t u hs m mu₀))
+                  (sound .fits .chunks .free u mu₀);
+            };
+          };
         }
 
     pub pairs-replaced : (F : Pair → ℕ) → total (pairsOf z img′) F + weigh z img F t ≡ total (pairsOf z img) F + weigh z img′ F t
     pairs-replaced F =
         let now : total (pairsOf z img′) F ≡ total (chained z img) (weigh z img′ F) =
-        pairs-total z img′ F ∙ ap (λ (l : List ℕ). total l (weigh z img′ F)) (same-chained z img img′ (sound .chains) (only .chains)) in
+        pairs-total z img′ F ∙ ap (λ (l : List ℕ). total l (weigh z img′ F)) (same-chained z img img′ (sound .fits .chains) (only .chains)) in
         let each : Every (chained z img) (λ u. u ≢ t → weigh z img′ F u ≡ weigh z img F u) =
         λ u mu ne.
-        let w : (s′ : ℕ) × (s′ < segments) × List·Memᴰ u (chain z img s′) = chained-in z img (sound .chains) u mu in
+        let w : (s′ : ℕ) × (s′ < segments) × List·Memᴰ u (chain z img s′) = chained-in z img (sound .fits .chains) u mu in
         same-weigh z img img′ u (other (w .0) (w .1) u (w .2) ne) (w .0) (other-fits (w .0) (w .1) u (w .2) ne .slotsFit) F in
         omega (
           arith,
           now,
           pairs-total z img F,
-          total-change (chained z img) t (weigh z img F) (weigh z img′ F) (chained-once z img (sound .chains) s t hs m) each,
+          total-change (chained z img) t (weigh z img F) (weigh z img′ F) (chained-once z img (sound .fits .chains) s t hs m) each,
         )

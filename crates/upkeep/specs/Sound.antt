@@ -1,22 +1,18 @@
 -- A sound image, and what its live entries hold.
 use Prim.Native.Nat.{ℕ}
-use mathlib.Core.List.{List, map}
+use mathlib.Core.List.{List, List·Memᴰ, map}
 use mathlib.Core.Path.{_≡_}
-use mathlib.Core.Logic.{_≢_}
-use lib.ListN.{length}
-use Rattle.lists.specs.Lists.{howMany}
 use Rattle.lists.specs.Quantify.{Below, Every}
 use Rattle.words.specs.Bytes.{Bytes}
 use Rattle.settings.specs.Rules.{Valid}
 use Rattle.layout.specs.declared.Shape.{Shape}
-use Rattle.layout.specs.Places.{get, mark, countPlace}
 use Rattle.layout.specs.Frame.{shapeOf, FrameFits}
 use Rattle.chains.specs.Chains.{chain, freeChain, ChainsFit}
 use Rattle.entries.specs.declared.Live.{Live}
 use Rattle.entries.specs.Stored.{keyOf, valueOf}
-use Rattle.entries.specs.Live.{fullSlots, liveIn, live}
+use Rattle.entries.specs.Live.{live}
 use Rattle.search.specs.Rules.{EntriesFit}
-use Rattle.chunks.specs.Chunks.{covers, LowMarkFits, FreeTierFits, ChunksFit}
+use Rattle.chunks.specs.Chunks.{MarksFit, CountersFit, FreeTierFits, ChunksFit}
 
 -- a key and its record
 pub record Pair : Type 0 where
@@ -30,26 +26,32 @@ pairOf img e = record { key = keyOf img (e .entry); value = valueOf img (e .entr
 unfoldable pub pairsOf : Shape → List ℕ → List Pair
 pairsOf z img = map (pairOf img) (live z img)
 
--- bytes that fit the layout with every rule of refusals 4 to 7
-pub record SoundImage (z : Shape) (img : List ℕ) : Type 0 where
-  pub bytes : Bytes img
+-- the rules of refusals 3 to 7, where C is what is asked of chunks and counters
+pub record FitsWith (C : Type 0) (z : Shape) (img : List ℕ) : Type 0 where
   pub valid : Valid (z .settings)
-  pub shape : shapeOf (z .settings) img ≡ z
   pub frame : FrameFits z img
   pub chains : ChainsFit z img
   pub entries : EntriesFit z img
-  pub chunks : ChunksFit z img
+  pub chunks : C
 
--- the same, but for the entry count and the lowest free chunk field of tier t
-pub record SoundBut (z : Shape) (img : List ℕ) (t : ℕ) : Type 0 where
-  pub bytes : Bytes img
-  pub valid : Valid (z .settings)
-  pub shape : shapeOf (z .settings) img ≡ z
-  pub frame : FrameFits z img
-  pub chains : ChainsFit z img
-  pub entries : EntriesFit z img
-  pub marks : Below (z .settings .segments)
-      (λ s. Every (chain z img s) (λ u. Below (z .settings .chunks) (λ i. howMany (liveIn z img s u) (covers i) ≡ mark z img u i)))
-  pub counters : Below (z .settings .segments)
-      (λ s. Every (chain z img s) (λ u. u ≢ t → (get z img (countPlace z u) ≡ length (fullSlots z img u)) × LowMarkFits z img u))
+abbrev pub ImageFits : Shape → List ℕ → Type 0
+ImageFits z img = FitsWith (ChunksFit z img) z img
+
+-- the rules of refusal 7, but for the two counters of some tiers
+pub record ChunksFitBut (z : Shape) (img but : List ℕ) : Type 0 where
+  pub marks : Below (z .settings .segments) (λ s. Every (chain z img s) (MarksFit z img s))
+  pub counters : Below (z .settings .segments) (λ s. Every (chain z img s) (λ t. (List·Memᴰ t but → ⊥) → CountersFit z img t))
   pub free : Every (freeChain z img) (FreeTierFits z img)
+
+-- bytes whose shape is z, with those rules
+pub record SoundWith (C : Type 0) (z : Shape) (img : List ℕ) : Type 0 where
+  pub bytes : Bytes img
+  pub shape : shapeOf (z .settings) img ≡ z
+  pub fits : FitsWith C z img
+
+abbrev pub SoundImage : Shape → List ℕ → Type 0
+SoundImage z img = SoundWith (ChunksFit z img) z img
+
+-- while an edit goes on, the tiers that it changed
+abbrev pub SoundBut : Shape → List ℕ → List ℕ → Type 0
+SoundBut z img but = SoundWith (ChunksFitBut z img but) z img

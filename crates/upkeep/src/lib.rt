@@ -5,7 +5,7 @@ ghost use lib.ListN.{length};
 ghost use Rattle.layout.specs.Tiers.{IsTier};
 ghost use Rattle.layout.specs.Frame.{Framed};
 ghost use Rattle.entries.specs.Live.{fullSlots};
-ghost use Rattle.upkeep.specs.Recount.{recount as Recount·recount};
+ghost use Rattle.upkeep.specs.Recount.{recount as Recount·recount, settle as Recount·settle, touched, Settles};
 
 // How many slots of a tier are full.
 pub fn full_slots(z: Shape, img: &[u8], t: usize) -> usize
@@ -32,4 +32,19 @@ pub fn recount(z: Shape, img: &mut [u8], t: usize)
     let low = chunks::lowest_clear(z, img, t);
     layout::write::put_count(z, img, t, n as u64);
     layout::write::put_low(z, img, t, low as u64);
+}
+
+// The counters of the tiers that an edit changed: t, and another tier if there is one (0 is none).
+pub fn settle(z: Shape, img: &mut [u8], t: usize, other: usize)
+    requires { ⌜ Settles z (length (now img)) t other ⌝ }
+    ensures { λ r. ⌜ now (img .exit) ≡ Recount·settle z (now (img .entry)) (touched t other) ⌝ }
+{
+    recount(z, img, t);
+    if other == 0 {
+        return;
+    }
+    if other == t {
+        return;
+    }
+    recount(z, img, other);
 }

@@ -14,8 +14,8 @@ enum-known-stage c = search needs
 enum-known-z : tie.Need-enum-known-z
 enum-known-z c = search needs
 
-look-up-requires : tie.Need-look-up-requires
-look-up-requires c κs =
+lookup-accepted-requires : tie.Need-lookup-accepted-requires
+lookup-accepted-requires c κs =
     let p = c .before in let z = p .z in
     let p = p .before .before in let asked-key = p .asked-key in
     let p = p .before .before in let shared-slice-known2 = p .shared-slice-known2 in
@@ -37,9 +37,9 @@ returns-2 c =
     let p = p .before .before in let asked-key = p .asked-key in
     let start = p .before .before .before .before in
     lookup-ready (start .args .block .now) (start .args .img .now) (start .args .key .now) (asked-key .ensures) (z .given .0 .0)
-    (z .given .0 .1 .0) (z .given .1) (c .look-up .ensures)
+    (z .given .0 .1 .0) (z .given .1) (c .lookup-accepted .ensures)
 
 pub lookup-spec : {M : Type 1} → statement M
 lookup-spec =
     tie.close
-    (tie.spec asked-key-requires enum-known-stage enum-known-z look-up-requires returns returns-2)
+    (tie.spec asked-key-requires enum-known-stage enum-known-z lookup-accepted-requires returns returns-2)

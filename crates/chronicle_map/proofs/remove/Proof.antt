@@ -14,8 +14,8 @@ enum-known-stage c = search needs
 enum-known-z : tie.Need-enum-known-z
 enum-known-z c = search needs
 
-take-requires : tie.Need-take-requires
-take-requires c κs =
+remove-accepted-requires : tie.Need-remove-accepted-requires
+remove-accepted-requires c κs =
     let p = c .before .before in let z = p .z in
     let p = p .before .before in let asked-key = p .asked-key in
     let p = p .before .before .before in let slice-known = p .slice-known in
@@ -43,7 +43,7 @@ returns-2 c =
     let p = p .before .before in let asked-key = p .asked-key in
     let start = p .before .before .before .before .before in
     remove-ready (start .args .block .now) (start .args .img .now) (start .args .key .now) (asked-key .ensures) (z .given .0 .0)
-    (z .given .0 .1 .0) (z .given .1) (c .before .before .take .ensures)
+    (z .given .0 .1 .0) (z .given .1) (c .before .before .remove-accepted .ensures)
 
 pub remove-spec : {M : Type 1} → statement M
 remove-spec =
@@ -52,7 +52,7 @@ remove-spec =
     asked-key-requires
     enum-known-stage
     enum-known-z
-    take-requires
+    remove-accepted-requires
     same-length
     returns
     same-length-2

@@ -1,5 +1,5 @@
 use native.Mathlib.Omega.{arith}
-use Rattle.chronicle_map.proofs.Asking.{entry-ready, entry-sound}
+use Rattle.chronicle_map.proofs.Asking.{entry-storable}
 use Rattle.chronicle_map.proofs.Calling.{store-refused, store-ready}
 use borrow.Author.Needs.{needs}
 use Rattle.chronicle_map.proofs.store.Statement.{statement}
@@ -14,17 +14,14 @@ enum-known-stage c = search needs
 enum-known-z : tie.Need-enum-known-z
 enum-known-z c = search needs
 
-give-requires : tie.Need-give-requires
-give-requires c κs =
+store-accepted-requires : tie.Need-store-accepted-requires
+store-accepted-requires c κs =
     let p = c .before .before in let ready = p .z .given in
     let p = p .before .before in let asked-entry = p .asked-entry in
     let p = p .before .before .before .before in let bytes = p .slice-known .given in
     let args = p .before .before .args in
-    let fits = entry-ready (args .block .now) (args .img .now) (args .key .now) (args .value .now) (ready .0 .0) (ready .0 .1 .0) (asked-entry .ensures)
-    (ready .1) in
-    let sound = entry-sound (args .block .now) (args .img .now) (args .key .now) (args .value .now) (ready .0 .0) (ready .0 .1 .0) (asked-entry .ensures)
-    (ready .1) (λ i. omega (arith, bytes i)) in
-    (sound, fits .keyFits, fits .valueFits)
+    entry-storable (args .block .now) (args .img .now) (args .key .now) (args .value .now) (ready .0 .0) (ready .0 .1 .0) (asked-entry .ensures)
+    (ready .1) (λ i. omega (arith, bytes i))
 
 same-length : tie.Need-same-length
 same-length c = search needs
@@ -46,7 +43,7 @@ returns-2 c =
     let p = p .before .before in let asked-entry = p .asked-entry in
     let start = p .before .before .before .before .before .before in
     store-ready (start .args .block .now) (start .args .img .now) (start .args .key .now) (start .args .value .now) (asked-entry .ensures)
-    (z .given .0 .0) (z .given .0 .1 .0) (z .given .1) (c .before .before .give .ensures)
+    (z .given .0 .0) (z .given .0 .1 .0) (z .given .1) (c .before .before .store-accepted .ensures)
 
 pub store-spec : {M : Type 1} → statement M
 store-spec =
@@ -55,7 +52,7 @@ store-spec =
     asked-entry-requires
     enum-known-stage
     enum-known-z
-    give-requires
+    store-accepted-requires
     same-length
     returns
     same-length-2

@@ -10,12 +10,10 @@ use Rattle.contents.proofs.tier_contents.Statement.{statement}
 use Rattle.contents.proofs.tier_contents.Tie as tie
 use Rattle.contents.proofs.tier_contents.Reads as reads
 use Rattle.contents.proofs.tier_contents.Lts as lts
-use Rattle.chunks.proofs.lowest_clear.Reads as lowest-clear-reads
 use Rattle.chunks.proofs.marks_agree.Reads as marks-agree-reads
 use Rattle.contents.proofs.cover.Reads as cover-reads
 use Rattle.contents.proofs.full_slots.Reads as full-slots-reads
 use Rattle.layout.proofs.read.count_of.Reads as count-of-reads
-use Rattle.layout.proofs.read.low_of.Reads as low-of-reads
 use Rattle.search.proofs.rules.some_empty.Reads as some-empty-reads
 
 some-empty-requires : tie.Need-some-empty-requires
@@ -102,18 +100,16 @@ returns-4 c =
     (holds (start .args .z) (start .args .img .now) (start .args .s) (start .args .t)
     (decided-true (some-empty .result) (some-empty .ensures) (not-false _ (if1 .left)))
     (decided-true (cover .result) (cover .ensures .held) (not-false _ (if2 .left))))
-    (λ f. c .if3 .taken (c .before .count-of .ensures ∙ f .entryCount ∙ sym
+    (λ f. c .if3 .taken (c .before .count-of .ensures ∙ f .counters .entryCount ∙ sym
     (full-is (start .args .z) (start .args .img .now) (start .args .t) (full-slots .ensures))))
 
-lowest-clear-requires : tie.Need-lowest-clear-requires
-lowest-clear-requires c κs = search needs
-
-low-of-requires : tie.Need-low-of-requires
-low-of-requires c κs = search needs
+low-mark-fits-requires : tie.Need-low-mark-fits-requires
+low-mark-fits-requires c κs = search needs
 
 returns-5 : tie.Need-returns-5
 returns-5 c =
-    let p = c .before .before .before .before .before .before .before .before .before .before in let if2 = p .if2 in
+    let p = c .before in let low-mark-fits = p .low-mark-fits in
+    let p = p .before .before .before .before .before .before .before .before in let if2 = p .if2 in
     let p = p .before .before in let cover = p .cover in
     let p = p .before .before .before .before .before .before in let if1 = p .if1 in
     let p = p .before in let some-empty = p .some-empty in
@@ -122,11 +118,12 @@ returns-5 c =
     (holds (start .args .z) (start .args .img .now) (start .args .s) (start .args .t)
     (decided-true (some-empty .result) (some-empty .ensures) (not-false _ (if1 .left)))
     (decided-true (cover .result) (cover .ensures .held) (not-false _ (if2 .left))))
-    (λ f. c .if4 .taken (c .before .low-of .ensures ∙ f .lowMark ∙ sym (c .before .before .lowest-clear .ensures)))
+    (λ f. decided-false (low-mark-fits .result) (low-mark-fits .ensures) (not-true _ (c .if4 .taken)) (f .counters .lowMark))
 
 returns-6 : tie.Need-returns-6
 returns-6 c =
-    let p = c .before .before .before in let if3 = p .if3 in
+    let p = c .before in let low-mark-fits = p .low-mark-fits in
+    let p = p .before in let if3 = p .if3 in
     let p = p .before in let count-of = p .count-of in
     let p = p .before .before in let marked = p .marked in
     let p = p .before .before in let marks-agree = p .marks-agree in
@@ -142,7 +139,7 @@ returns-6 c =
     (decided-true (cover .result) (cover .ensures .held) (not-false _ (if2 .left))))
     (start .pre .0 .valid .chunks .1) (cover .ensures .counted (not-false _ (if2 .left))) (marks-agree .result) (marks-agree .ensures) _
     (marked .given .1) (full-is (start .args .z) (start .args .img .now) (start .args .t) (full-slots .ensures))
-    (sym (count-of .ensures) ∙ if3 .left) (sym (c .before .low-of .ensures) ∙ c .if4 .left ∙ c .before .before .lowest-clear .ensures)
+    (sym (count-of .ensures) ∙ if3 .left) (decided-true (low-mark-fits .result) (low-mark-fits .ensures) (not-false _ (c .if4 .left)))
 
 pub tier-contents-spec : {M : Type 1} → statement M
 tier-contents-spec =
@@ -163,7 +160,6 @@ tier-contents-spec =
     returns-3
     count-of-requires
     returns-4
-    lowest-clear-requires
-    low-of-requires
+    low-mark-fits-requires
     returns-5
     returns-6)

@@ -55,7 +55,7 @@ chunks-for-requires c κs =
     let i =
     entry-lengths (start .args .z) (start .args .img .now) (t .given .0 .0) (t .given .0 .1 .0) (entry-at .result) (entry-at .ensures)
     in
-    (start .pre .valid, i .0, i .1)
+    (start .pre .fits .valid, i .0, i .1)
 
 returns-2 : tie.Need-returns-2
 returns-2 c =

@@ -1,5 +1,4 @@
 use borrow.Author.Needs.{needs}
-use mathlib.Core.Path.{_∙_}
 use Rattle.upkeep.proofs.Framing.{framed-again}
 use Rattle.removal.proofs.Emptying.{removed-at}
 use Rattle.removal.proofs.remove_at.Statement.{statement}
@@ -13,26 +12,17 @@ empty-slot-requires c κs =
     let s = c .before .before .before .before .before .before in
     (framed-again (c .before .before .before .clear-marks .kept .1 .0) (s .pre .0), s .pre .1, s .pre .2)
 
-recount-requires : tie.Need-recount-requires
-recount-requires c κs =
-    let s = c .before .before .before .before .before .before .before .before .before .before in (
-      framed-again
-          (c .before .before .before .empty-slot .kept .1 .0 ∙ c .before .before .before .before .before .before .before .clear-marks .kept .1 .0)
-          (s .pre .0),
-      s .pre .1,
-    )
-
 same-length : tie.Need-same-length
 same-length c = search needs
 
 returns : tie.Need-returns
 returns c =
-    let s = c .before .before .before .before .before .before .before .before .before .before .before .before .before in
-    removed-at (s .args .z) (s .args .img .now) (s .args .t) (s .args .j) (s .args .c) (s .args .n)
-    (c .before .before .before .before .before .before .before .before .before .before .clear-marks .ensures)
-    (c .before .before .before .before .before .before .empty-slot .ensures) (c .before .before .recount .ensures)
+    let p = c .before .before in let empty-slot = p .empty-slot in
+    let p = p .before .before .before .before in let clear-marks = p .clear-marks in
+    let s = p .before .before .before in
+    removed-at (s .args .z) (s .args .img .now) (s .args .t) (s .args .j) (s .args .c) (s .args .n) (clear-marks .ensures) (empty-slot .ensures)
 
 pub remove-at-spec : {M : Type 1} → statement M
 remove-at-spec =
     tie.close
-    (tie.spec clear-marks-requires empty-slot-requires recount-requires same-length returns)
+    (tie.spec clear-marks-requires empty-slot-requires same-length returns)

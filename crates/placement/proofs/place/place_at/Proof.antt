@@ -1,4 +1,3 @@
-use mathlib.Core.Path.{_∙_}
 use Rattle.upkeep.proofs.Framing.{framed-again}
 use Rattle.placement.proofs.Written.{chunk-lt, placed-is}
 use borrow.Author.Needs.{needs}
@@ -16,25 +15,17 @@ fill-slot-requires c κs =
       chunk-lt (s .pre .0) (s .args .t) (s .args .c) (s .args .key .now) (s .args .value .now) (s .pre .2) (s .pre .3) (s .pre .4),
     )
 
-recount-requires : tie.Need-recount-requires
-recount-requires c κs =
-    let s = c .before .before .before .before .before .before .before .before .before .before .before .before in (
-      framed-again
-          (c .before .before .before .fill-slot .kept .1 .0 ∙ c .before .before .before .before .before .before .before .write-at .kept .1 .0)
-          (s .pre .0),
-      s .pre .1,
-    )
-
 same-length : tie.Need-same-length
 same-length c = search needs
 
 returns : tie.Need-returns
 returns c =
-    let s = c .before .before .before .before .before .before .before .before .before .before .before .before .before .before .before in
-    placed-is (s .args .z) (s .args .img .now) (s .args .t) (s .args .c) (s .args .key .now) (s .args .value .now)
-    (c .before .before .before .before .before .before .before .before .before .before .write-at .ensures)
-    (c .before .before .before .before .before .before .fill-slot .ensures) (c .before .before .recount .ensures)
+    let p = c .before .before in let fill-slot = p .fill-slot in
+    let p = p .before .before .before .before in let write-at = p .write-at in
+    let s = p .before .before .before .before .before in
+    placed-is (s .args .z) (s .args .img .now) (s .args .t) (s .args .c) (s .args .key .now) (s .args .value .now) (write-at .ensures)
+    (fill-slot .ensures)
 
 pub place-at-spec : {M : Type 1} → statement M
 place-at-spec =
-    tie.close (tie.spec write-at-requires fill-slot-requires recount-requires same-length returns)
+    tie.close (tie.spec write-at-requires fill-slot-requires same-length returns)

@@ -1,8 +1,8 @@
 use Rattle.edit.proofs.Replacing.{sound-framed, sound-tiers, old-in}
 use Rattle.chronicle_map.proofs.Calling.{looked-none, looked-found}
 use borrow.Author.Needs.{needs}
-use Rattle.chronicle_map.proofs.look_up.Statement.{statement}
-use Rattle.chronicle_map.proofs.look_up.Tie as tie
+use Rattle.chronicle_map.proofs.lookup_accepted.Statement.{statement}
+use Rattle.chronicle_map.proofs.lookup_accepted.Tie as tie
 
 search-requires : tie.Need-search-requires
 search-requires c κs =
@@ -40,6 +40,6 @@ returns-2 c =
     looked-found (start .args .z) (start .args .img .now) (start .pre) (start .args .key .now) (the-search .result) (the-search .ensures)
     (t .given .0 .0) (t .given .0 .1 .0) (t .given .1) (c .entry-at .ensures)
 
-pub look-up-spec : {M : Type 1} → statement M
-look-up-spec =
+pub lookup-accepted-spec : {M : Type 1} → statement M
+lookup-accepted-spec =
     tie.close (tie.spec search-requires enum-known-t enum-told returns entry-at-requires returns-2)

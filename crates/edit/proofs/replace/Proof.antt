@@ -1,0 +1,37 @@
+use mathlib.Core.Path.{_∙_}
+use Rattle.upkeep.proofs.Framing.{framed-again}
+use Rattle.edit.proofs.Replacing.{replaced-is}
+use borrow.Author.Needs.{needs}
+use Rattle.edit.proofs.replace.Statement.{statement}
+use Rattle.edit.proofs.replace.Tie as tie
+
+take-out-requires : tie.Need-take-out-requires
+take-out-requires c κs = let asks = c .before .before .before .before .pre in (asks .framed, asks .oldFits)
+
+place-at-requires : tie.Need-place-at-requires
+place-at-requires c κs =
+    let p = c .before .before .before in let take-out = p .take-out in
+    let asks = p .before .before .before .before .before .pre in
+    (framed-again (take-out .kept .1 .0) (asks .framed), asks .tierIn, asks .keyLong, asks .valueLong, asks .rangeEnds)
+
+settle-requires : tie.Need-settle-requires
+settle-requires c κs =
+    let p = c .before .before .before in let place-at = p .place-at in
+    let p = p .before .before .before .before in let take-out = p .take-out in
+    let asks = p .before .before .before .before .before .pre in
+    record { framed = framed-again (place-at .kept .1 .0 ∙ take-out .kept .1 .0) (asks .framed); tierIn = asks .tierIn; otherIn = asks .oldFits .tierIn }
+
+same-length : tie.Need-same-length
+same-length c = search needs
+
+returns : tie.Need-returns
+returns c =
+    let p = c .before .before in let settle = p .settle in
+    let p = p .before .before .before .before in let place-at = p .place-at in
+    let p = p .before .before .before .before in let take-out = p .take-out in
+    let start = p .before .before .before .before .before in
+    replaced-is (start .args .z) (start .args .img .now) (start .args .old) (start .args .t) (start .args .c) (start .args .key .now)
+    (start .args .value .now) (take-out .ensures) (place-at .ensures) (settle .ensures)
+
+pub replace-spec : {M : Type 1} → statement M
+replace-spec = tie.close (tie.spec take-out-requires place-at-requires settle-requires same-length returns)
