@@ -1,6 +1,12 @@
-pub mod Follow
 pub mod Tally
 pub mod Walking
 pub mod Segments
+pub mod Tiers
+pub mod Standing
+pub mod FromMain
 pub mod Answer
+pub mod FromWalks
 pub mod Along
+pub mod Linked
+pub mod Chained
+pub mod Counts

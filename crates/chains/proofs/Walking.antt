@@ -1,100 +1,83 @@
--- What the loop of `walk` keeps: what is left to walk gives the same as the whole.
-use Prim.Native.Nat.{ℕ, suc, _+_, _-_, _^_, _≤_, _<_}
-use mathlib.Core.List.{List, [], _∷_, List·Memᴰ·head, List·Memᴰ·tail}
-use mathlib.Core.Path.{_≡_, refl, ap, sym, _∙_}
-use mathlib.Core.Logic.{⊎-elim, _≢_}
+-- What a walk tells, and what the loop of `walk` keeps: the tiers that it has met are extra tiers, and each was counted.
+use Prim.Native.Nat.{ℕ, _+_, _^_, _≤_, _<_}
+use mathlib.Core.List.{List, [], _∷_, _++_}
+use mathlib.Core.Path.{_≡_, refl, ap, sym, _∙_, subst}
+use mathlib.Core.Logic.{_≢_}
 use native.Mathlib.Omega.{arith}
-use lib.ListN.{length, getD, set, length-set}
-use lib.Seq.{getD-set-same, getD-set-other, set-out}
-use Rattle.lists.specs.Cases.{same-or, lt-or}
-use Rattle.lists.specs.Quantify.{Every, every-cons, every-none}
+use lib.ListN.{length, getD, set, length-set, length-append}
+use Rattle.lists.specs.Quantify.{Every, every-none}
+use Rattle.lists.proofs.Members.{every-more}
+use Rattle.links.proofs.Along.{Along, along-starts, along-ends, along-end, along-lost, along-in, along-turns}
 use Rattle.layout.specs.declared.Shape.{Shape}
 use Rattle.layout.specs.Tiers.{IsExtra}
-use Rattle.chains.specs.declared.Walked.the-variants.{Ended}
-use Rattle.chains.specs.Chains.{follow, endOf, nextOf}
-use Rattle.chains.specs.Walk.{tally, Extras, Walks}
-use Rattle.chains.proofs.Follow.{follow-none, follow-more, end-none, end-more, end-out}
+use Rattle.chains.specs.declared.Walked.{Walked}
+use Rattle.chains.specs.declared.Walked.the-variants.{Ended, Lost}
+use Rattle.chains.specs.Chains.{follow, nextOf}
+use Rattle.chains.specs.Walk.{tally, Met, Tells, Told, Walks, MetAtMost}
+use Rattle.chains.proofs.Tally.{tally-append, met-tally}
+
+-- ---- what a walk tells, by its answer
+
+module _ {P : Type 0} {l times times′ : List ℕ} {r : Walked} (w : Told P l times times′ r) where
+  pub told-ended : {k : ℕ} → r ≡ Ended k → Met P l times times′ k
+  told-ended e = subst (Tells P l times times′) e (w .so)
+
+  pub told-lost : r ≡ Lost → P → ⊥
+  told-lost e = subst (Tells P l times times′) e (w .so)
+
+-- ---- the loop
 
 module _ (z : Shape) (img : List ℕ) (most start : ℕ) (times₀ : List ℕ) where
   pub record Walking (times : List ℕ) (t k : ℕ) : Type 0 where
-    pub low : k ≤ most
+    pub done : List ℕ
+    pub along : Along (nextOf z img) most start done t
+    pub count : length done ≡ k
     pub long : length times ≡ length times₀
-    pub count : k + length (follow z img (most - k) t) ≡ length (follow z img most start)
-    pub ends : endOf z img (most - k) t ≡ endOf z img most start
-    pub part : Every (follow z img most start) (IsExtra z) → Every (follow z img (most - k) t) (IsExtra z)
-    pub whole : Every (follow z img (most - k) t) (IsExtra z) → Every (follow z img most start) (IsExtra z)
-    pub tallied : tally times (follow z img (most - k) t) ≡ tally times₀ (follow z img most start)
-    pub bound : (u : ℕ) → getD times u 0 ≤ 2 ^ 32 + k
+    pub extras : Every done (IsExtra z)
+    pub tallied : times ≡ tally times₀ done
 
-  pub walk-starts : ((u : ℕ) → getD times₀ u 0 ≤ 2 ^ 32) → Walking times₀ start 0
-  walk-starts b =
-      let e : most - 0 ≡ most = omega arith in
-      record {
-        low = omega arith;
-        long = refl;
-        count = rw e (omega arith);
-        ends = rw e;
-        part = rw e (λ f. f);
-        whole = rw e (λ f. f);
-        tallied = rw e;
-        bound = λ u. omega (arith, b u);
-      }
+  pub walk-starts : Walking times₀ start 0
+  unfolding tally
+  walk-starts =
+      record { done = []; along = along-starts (nextOf z img) most start; count = refl; long = refl; extras = every-none (IsExtra z); tallied = refl }
 
   module _ {times : List ℕ} {t k : ℕ} (w : Walking times t k) where
+    pub walk-met : MetAtMost times₀ (2 ^ 32) → MetAtMost times (2 ^ 32 + k)
+    walk-met met u = rw (w .tallied, ← w .count) (met-tally times₀ (w .done) (2 ^ 32) met u)
+
     -- the end is reached
     pub walk-ends : t ≡ 0 → Walks z img most start times₀ times (Ended k)
-    unfolding tally
     walk-ends e =
-        let none : follow z img (most - k) t ≡ [] = rw e (follow-none z img (most - k)) in
-        let end : endOf z img (most - k) t ≡ 0 = rw e (end-none z img (most - k)) in
-        let all : Every (follow z img (most - k) t) (IsExtra z) = rw none (every-none (IsExtra z)) in
-        let count : k + length (follow z img (most - k) t) ≡ length (follow z img most start) = w .count in
-        let tallied : tally times (follow z img (most - k) t) ≡ tally times₀ (follow z img most start) = w .tallied in
-        (record { extras = w .whole all; ends = sym (w .ends) ∙ end }, (omega (arith, ap length none), rw none at tallied))
+        let all : w .done ≡ follow z img most start = along-ends (w .along) e in
+        record {
+          so =
+              record {
+                holds = record { extras = rw all at (w .extras); ends = along-end (w .along) e };
+                count = sym (w .count) ∙ ap length all;
+                tallied = w .tallied ∙ ap (tally times₀) all;
+              };
+        }
 
     module _ (h : k < most) (ne : t ≢ 0) where
-      here : follow z img (most - k) t ≡ t ∷ follow z img (most - (k + 1)) (nextOf z img t)
-      here = let e : most - k ≡ suc (most - (k + 1)) = omega arith in rw e (follow-more z img (most - (k + 1)) t ne)
+      low : length (w .done) < most
+      low = omega (arith, w .count)
 
       -- t is no extra tier
-      pub walk-lost : (IsExtra z t → ⊥) → Extras z img most start → ⊥
-      walk-lost n x = n (rw here at (w .part (x .extras)) t (List·Memᴰ·head refl))
+      pub walk-lost : (IsExtra z t → ⊥) → Walks z img most start times₀ times Lost
+      walk-lost n = record { so = λ x. n (x .extras t (along-in (w .along) low ne)) }
 
       pub walk-turns : IsExtra z t → {n : ℕ} → n ≡ nextOf z img t → Walking (set times t (getD times t 0 + 1)) n (k + 1)
       unfolding tally
-      walk-turns x {n} e =
-          let rest : ℕ = most - (k + 1) in
-          let more : most - k ≡ suc rest = omega arith in
-          let count : k + length (follow z img (most - k) t) ≡ length (follow z img most start) = w .count in
-          let ends : endOf z img (most - k) t ≡ endOf z img most start = w .ends in
-          let tallied : tally times (follow z img (most - k) t) ≡ tally times₀ (follow z img most start) = w .tallied in
-          rw e
-          (record {
-            low = omega arith;
+      walk-turns x e =
+          record {
+            done = w .done ++ (t ∷ []);
+            along = along-turns (w .along) low ne e;
+            count = omega (arith, w .count, length-append (w .done) (t ∷ []));
             long = length-set times t _ ∙ w .long;
-            count = omega (arith, ap length here, count);
-            ends = sym (end-more z img rest t ne) ∙ (rw more at ends);
-            part = λ f u m. rw here at (w .part f) u (List·Memᴰ·tail m);
-            whole = λ f. w .whole (rw here (every-cons (IsExtra z) t _ x f));
-            tallied = rw here at tallied;
-            bound = bound;
-          })
-        where
-          bound : (u : ℕ) → getD (set times t (getD times t 0 + 1)) u 0 ≤ 2 ^ 32 + (k + 1)
-          bound u =
-              ⊎-elim
-              (λ (q : u ≡ t).
-              ⊎-elim
-              (λ (l : t < length times). rw (q, getD-set-same times t (getD times t 0 + 1) 0 l) (omega (arith, w .bound t)))
-              (λ (l : length times ≤ t). rw (set-out times t (getD times t 0 + 1) l) (omega (arith, w .bound u)))
-              (lt-or t (length times)))
-              (λ (q : u ≢ t). rw (getD-set-other times t u (getD times t 0 + 1) 0 q) (omega (arith, w .bound u)))
-              (same-or u t)
+            extras = every-more (w .done) t (w .extras) x;
+            tallied = rw (w .tallied) (sym (tally-append times₀ (w .done) (t ∷ [])));
+          }
 
     -- no end was found
-    pub walk-out : most ≤ k → t ≢ 0 → Extras z img most start → ⊥
-    walk-out h ne x =
-        let e : most - k ≡ 0 = omega arith in
-        let f : endOf z img (most - k) t ≡ 0 = w .ends ∙ x .ends in
-        let g : endOf z img 0 t ≡ 0 = rw e at f in
-        ne (sym (end-out z img t) ∙ g)
+    pub walk-out : most ≤ k → t ≢ 0 → Walks z img most start times₀ times Lost
+    walk-out h ne = record { so = λ x. ne (sym (along-lost (w .along) (omega (arith, w .count))) ∙ x .ends) }

@@ -1,14 +1,14 @@
 -- The chains of tiers: refusal 5.
-use Prim.Native.Nat.{ℕ, zero, suc, _*_}
-use mathlib.Core.List.{List, [], _∷_, _++_, flatMap}
+use Prim.Native.Nat.{ℕ, suc, _*_}
+use mathlib.Core.List.{List, _∷_, _++_, flatMap}
 use mathlib.Core.Path.{_≡_}
-use mathlib.Core.Bool.{true, false}
 use native.Mathlib.Decide.{decLe, decLt, ℕ-discrete}
 use lib.Dec.{eqb}
 use lib.ListN.{length, getD, drop}
 use Rattle.lists.specs.Lists.{span, below, howMany}
 use Rattle.lists.specs.Decide.{both, rule}
 use Rattle.lists.specs.Quantify.{Below, Every, below?, every?}
+use Rattle.links.specs.Links as links
 use Rattle.settings.specs.declared.Settings.{Settings}
 use Rattle.layout.specs.declared.Shape.{Shape}
 use Rattle.layout.specs.Tiers.{tiers, IsExtra}
@@ -27,13 +27,11 @@ module _ (z : Shape) (img : List ℕ) where
   nextOf t = get z img (nextPlace z t)
 
   -- the tiers met from t on, following next up to 0, at most n of them; and the index that is met after those
-  unfoldable pub follow : ℕ → ℕ → List ℕ
-  follow zero t = []
-  follow (suc n) t = elim (eqb t 0) [ true ↦ [] | false ↦ t ∷ follow n (nextOf t) ]
+  abbrev pub follow : ℕ → ℕ → List ℕ
+  follow n t = links.follow nextOf n t
 
-  unfoldable pub endOf : ℕ → ℕ → ℕ
-  endOf zero t = t
-  endOf (suc n) t = elim (eqb t 0) [ true ↦ 0 | false ↦ endOf n (nextOf t) ]
+  abbrev pub endOf : ℕ → ℕ → ℕ
+  endOf n t = links.endOf nextOf n t
 
   -- segment s's chain, and the free chain
   unfoldable pub chain : ℕ → List ℕ

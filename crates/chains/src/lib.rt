@@ -2,14 +2,16 @@
 use layout::Counters;
 use layout::Shape;
 ghost use mathlib.Core.Path.{_≡_};
-ghost use Prim.Native.Nat.{suc, _+_, _-_, _*_, _^_, _<_, _≤_};
+ghost use Prim.Native.Nat.{suc, _+_, _<_};
 ghost use lib.ListN.{length, getD};
 ghost use Rattle.lists.specs.Decide.{Decides};
-ghost use Rattle.lists.specs.Quantify.{Below, Every};
-ghost use Rattle.layout.specs.Tiers.{tiers, IsTier, IsExtra};
+ghost use Rattle.lists.specs.Quantify.{Below};
 ghost use Rattle.layout.specs.Frame.{Framed};
-ghost use Rattle.chains.specs.Chains.{chain, StandsAt, Stands, chainsOf};
-ghost use Rattle.chains.specs.Walk.{Walks, ChainWalks, AllWalk, MetAtMost, extrasOf};
+ghost use Rattle.chains.specs.Chains.{StandsAt, Stands, chainsOf};
+ghost use Rattle.chains.specs.Walk.{Walks, ChainWalks, AllWalk, Counting, CanWalk, CanWalkChain, CanStand, CanAllStand};
+
+// A count for 0 and for each of 1,024 tiers.
+const COUNTS: usize = 1025;
 
 // Whether the chains fit: how many tiers are chained and how many free, or that a rule is broken.
 pub enum Chains {
@@ -25,7 +27,7 @@ pub enum Walked {
 
 // Follows the links from a tier index on over at most so many extra tiers, and counts each in times.
 fn walk(z: Shape, img: &[u8], start: usize, most: usize, times: &mut [usize]) -> Walked
-    requires { ⌜ Framed z (length (now img)) × (most ≤ 1024) × (length (now times) ≡ 1025) × MetAtMost (now times) (2 ^ 32) ⌝ }
+    requires { ⌜ CanWalk z (now img) most (now times) ⌝ }
     ensures { λ r. ⌜ Walks z (now (img .entry)) most start (now (times .entry)) (now (times .exit)) r ⌝ }
 {
     let count = layout::tier_count(z);
@@ -53,7 +55,7 @@ fn walk(z: Shape, img: &[u8], start: usize, most: usize, times: &mut [usize]) ->
 
 // Whether a tier's counters say that it is at this place of a segment's chain.
 fn stands(z: Shape, img: &[u8], s: usize, order: usize, t: usize, previous: usize) -> bool
-    requires { ⌜ Framed z (length (now img)) × IsTier z t ⌝ }
+    requires { ⌜ CanStand z (now img) t ⌝ }
     ensures { λ r. ⌜ Decides r (StandsAt z (now (img .entry)) s order t previous) ⌝ }
 {
     let c = Counters::read(z, img, t);
@@ -71,7 +73,7 @@ fn stands(z: Shape, img: &[u8], s: usize, order: usize, t: usize, previous: usiz
 
 // Whether the n tiers of a segment's chain say where they stand.
 fn all_stand(z: Shape, img: &[u8], s: usize, n: usize) -> bool
-    requires { ⌜ Framed z (length (now img)) × (s < z .settings .segments) × (n ≡ length (chain z (now img) s)) × Every (extrasOf z (now img) s) (IsExtra z) ⌝ }
+    requires { ⌜ CanAllStand z (now img) s n ⌝ }
     ensures { λ r. ⌜ Decides r (Below n (Stands z (now (img .entry)) s)) ⌝ }
 {
     let mut t = s + 1;
@@ -90,7 +92,7 @@ fn all_stand(z: Shape, img: &[u8], s: usize, n: usize) -> bool
 
 // One segment's chain: its extra tiers are walked and counted, then each tier is asked where it stands.
 fn chain_fits(z: Shape, img: &[u8], s: usize, times: &mut [usize]) -> Walked
-    requires { ⌜ Framed z (length (now img)) × (s < z .settings .segments) × (length (now times) ≡ 1025) × MetAtMost (now times) (2 ^ 32) ⌝ }
+    requires { ⌜ CanWalkChain z (now img) s (now times) ⌝ }
     ensures { λ r. ⌜ ChainWalks z (now (img .entry)) s (now (times .entry)) (now (times .exit)) r ⌝ }
 {
     let first = layout::read::next_of(z, img, s + 1) as usize;
@@ -105,7 +107,7 @@ fn chain_fits(z: Shape, img: &[u8], s: usize, times: &mut [usize]) -> Walked
 
 // Every segment's chain: how many extra tiers they have together.
 fn all_fit(z: Shape, img: &[u8], times: &mut [usize]) -> Walked
-    requires { ⌜ Framed z (length (now img)) × (length (now times) ≡ 1025) × MetAtMost (now times) 0 ⌝ }
+    requires { ⌜ Counting z (now img) (now times) 0 ⌝ }
     ensures { λ r. ⌜ AllWalk z (now (img .entry)) (z .settings .segments) (now (times .entry)) (now (times .exit)) r ⌝ }
 {
     let mut total = 0;
@@ -140,7 +142,7 @@ pub fn chains_of(z: Shape, img: &[u8]) -> Chains
     requires { ⌜ Framed z (length (now img)) ⌝ }
     ensures { λ r. ⌜ r ≡ chainsOf z (now (img .entry)) ⌝ }
 {
-    let mut times = [0usize; 1025];
+    let mut times = [0usize; COUNTS];
     let Walked::Ended(used) = all_fit(z, img, &mut times) else {
         return Chains::Broken;
     };

@@ -9,7 +9,7 @@ use lib.ListN.{length}
 use borrow.Author.Tests.{eq-eqb, ne-eqb}
 use Rattle.lists.specs.Lists.{below, howMany, total}
 use Rattle.lists.proofs.Lists.{span-in}
-use Rattle.lists.proofs.Rows.{row-in}
+use Rattle.lists.proofs.Rows.{howMany-span-in}
 use Rattle.lists.proofs.SameLists.{same-those}
 use Rattle.lists.proofs.Totals.{total-same, total-change, total-zero, howMany-total, howMany-flatMap}
 use Rattle.settings.specs.declared.Settings.{Settings}
@@ -19,7 +19,7 @@ use Rattle.entries.specs.declared.Live.{Live}
 use Rattle.entries.specs.Live.{slotAt, liveAt, liveIn, liveOf, live}
 use Rattle.entries.proofs.LiveLists.{liveIn-in}
 use Rattle.chunks.specs.Chunks.{covers}
-use Rattle.upkeep.proofs.Chained.{chain-segment, chain-once}
+use Rattle.chains.proofs.Chained.{chain-segment, chain-once}
 use Rattle.chronicle_map.specs.Demands.{coversIn}
 
 module _ (z : Shape) (img : List ℕ) (fits : ChainsFit z img) (s t i : ℕ) (hs : s < z .settings .segments) (mt : List·Memᴰ t (chain z img s)) where
@@ -67,6 +67,6 @@ module _ (z : Shape) (img : List ℕ) (fits : ChainsFit z img) (s t i : ℕ) (hs
       ∙ total-same (below segments) of-segment (λ s′. howMany (liveOf z img s′) (coversIn t i))
       (λ s′ m. howMany-flatMap (liveIn z img s′) (chain z img s′) (coversIn t i)) in
       let b : total (below segments) of-segment + 0 ≡ total (below segments) (λ _. 0) + of-segment s =
-      total-change (below segments) s (λ _. 0) of-segment (row-in 0 segments s (omega arith) (omega arith))
+      total-change (below segments) s (λ _. 0) of-segment (howMany-span-in 0 segments s (omega arith) (omega arith))
       (λ s′ m ne. other s′ (omega (arith, span-in 0 segments s′ m)) ne) in
       omega (arith, a, b, total-zero (below segments), own)

@@ -20,7 +20,7 @@ use Rattle.entries.specs.Stored.{chunksFor}
 use Rattle.entries.specs.Live.{live}
 use Rattle.chunks.specs.Chunks.{markedChunks}
 use Rattle.upkeep.specs.Sound.{pairOf, pairsOf}
-use Rattle.upkeep.proofs.Chained.{chained-in, extra-once}
+use Rattle.chains.proofs.Chained.{chained-in, extra-once}
 use Rattle.upkeep.proofs.KeyCounts.{withKey, keys-once}
 use Rattle.upkeep.proofs.Marked.{marked-sum}
 use Rattle.image.specs.declared.Counts.{Counts}

@@ -1,32 +1,19 @@
 -- Counts and bits by eights: the whole bytes of a tier's free list.
-use Prim.Native.Nat.{ℕ, _+_, _-_, _*_, _/_, _%_, _≤_, _<_}
+use Prim.Native.Nat.{ℕ, zero, suc, _+_, _*_, _/_, _%_, _≤_, _<_}
 use mathlib.Core.List.{List}
-use mathlib.Core.Path.{_≡_, refl, ap, sym, _∙_, subst}
-use mathlib.Core.Logic.{⊎-elim, _≢_}
+use mathlib.Core.Path.{_≡_, refl, ap, sym, _∙_}
+use mathlib.Core.Logic.{_≢_}
 use native.Mathlib.Omega.{arith}
 use native.Mathlib.Nat.{add-zero}
-use borrow.Author.Count.{below-more}
 use lib.ListN.{getD}
-use Rattle.lists.specs.Cases.{lt-or}
 use Rattle.lists.specs.Quantify.{Below}
+use Rattle.lists.proofs.Below.{below-join, four-below, eight-below}
 use Rattle.words.specs.Bits.{bitOf, bit}
-use Rattle.words.proofs.Bits.{bit-lt}
+use Rattle.words.proofs.Bits.{bitOf-lt}
 use Rattle.layout.specs.declared.Shape.{Shape}
 use Rattle.layout.specs.Places.{mark, freeListAt}
 use Rattle.chunks.specs.Counting.{IsFour, spreadOf, onesOf, IsByte, markedBelow}
 use Rattle.chunks.proofs.Marks.{marked-more}
-
--- ---- rules for the first n and the next m numbers
-
-pub below-join : (P : ℕ → Type 0) (n m : ℕ) → Below n P → Below m (λ k. P (n + k)) → Below (n + m) P
-below-join P n m f g i h =
-    ⊎-elim
-    (λ (l : i < n). f i l)
-    (λ (l : n ≤ i). let e : n + (i - n) ≡ i = omega arith in subst P e (g (i - n) (omega arith)))
-    (lt-or i n)
-
-four-below : (P : ℕ → Type 0) → P 0 → P 1 → P 2 → P 3 → Below 4 P
-four-below P a b c d = below-more P 3 (below-more P 2 (below-more P 1 (below-more P 0 (λ i h. absurd (omega arith)) a) b) c) d
 
 -- ---- 4 counts and 4 bits
 
@@ -39,7 +26,7 @@ module _ (l : List ℕ) (i : ℕ) where
   pub four-same : {r : ℕ} → IsFour l i r → (v : ℕ) → r ≡ spreadOf v → Below 4 (λ k. getD l (i + k) 0 ≡ bitOf v k)
   four-same w v e =
       let d = digits (getD l i 0) (getD l (i + 1) 0) (getD l (i + 2) 0) (getD l (i + 3) 0) (bitOf v 0) (bitOf v 1) (bitOf v 2) (bitOf v 3)
-      (w .1 .0) (w .1 .1) (w .2 .0) (w .2 .1) (bit-lt v 0) (bit-lt v 1) (bit-lt v 2) (bit-lt v 3) (sym (w .0) ∙ e) in
+      (w .1 .0) (w .1 .1) (w .2 .0) (w .2 .1) (bitOf-lt v 0) (bitOf-lt v 1) (bitOf-lt v 2) (bitOf-lt v 3) (sym (w .0) ∙ e) in
       four-below (λ k. getD l (i + k) 0 ≡ bitOf v k) (rw add-zero (d .0)) (d .1 .0) (d .1 .1 .0) (d .1 .1 .1)
 
   pub four-other : {r : ℕ} → IsFour l i r → (v : ℕ) → Below 4 (λ k. getD l (i + k) 0 ≡ bitOf v k) → r ≡ spreadOf v
@@ -118,26 +105,16 @@ module _ {n i : ℕ} {P : ℕ → Type 0} (w : Whole n i P) where
   pub whole-inside : (i ≤ n) × Below i P
   whole-inside = (omega (arith, w .low), w .have)
 
--- ---- a byte of 1s, a byte of 0s
+-- ---- a byte whose bits are all alike
 
-all-ones : Below 8 (λ k. bitOf 255 k ≡ 1)
-all-ones =
-    below-join (λ k. bitOf 255 k ≡ 1) 4 4 (four-below (λ k. bitOf 255 k ≡ 1) refl refl refl refl)
-    (four-below (λ k. bitOf 255 (4 + k) ≡ 1) refl refl refl refl)
-
-all-zeros : Below 8 (λ k. bitOf 0 k ≡ 0)
-all-zeros =
-    below-join (λ k. bitOf 0 k ≡ 0) 4 4 (four-below (λ k. bitOf 0 k ≡ 0) refl refl refl refl)
-    (four-below (λ k. bitOf 0 (4 + k) ≡ 0) refl refl refl refl)
+same-bits : (b : ℕ) → b < 2 → Below 8 (λ k. bitOf (b * 255) k ≡ b)
+same-bits zero h = eight-below (λ k. bitOf 0 k ≡ 0) refl refl refl refl refl refl refl refl
+same-bits (suc zero) h = eight-below (λ k. bitOf 255 k ≡ 1) refl refl refl refl refl refl refl refl
+same-bits (suc (suc b)) h = absurd (omega arith)
 
 module _ (z : Shape) (img : List ℕ) (t i v : ℕ) (b : IsByte z img t i v) where
-  pub ones-marked : v ≡ 255 → Below 8 (λ k. mark z img t (i + k) ≢ 0)
-  ones-marked e k h q =
-      let a : mark z img t (i + k) ≡ 1 = b k h ∙ ap (λ (x : ℕ). bitOf x k) e ∙ all-ones k h in
-      omega arith
-
-  pub zeros-clear : v ≡ 0 → Below 8 (λ k. mark z img t (i + k) ≡ 0)
-  zeros-clear e k h = b k h ∙ ap (λ (x : ℕ). bitOf x k) e ∙ all-zeros k h
+  pub byte-all : {m : ℕ} → m < 2 → v ≡ m * 255 → Below 8 (λ k. mark z img t (i + k) ≡ m)
+  byte-all {m} l e k h = b k h ∙ ap (λ (x : ℕ). bitOf x k) e ∙ same-bits m l k h
 
   -- what the counts of the 8 chunks say of the byte, they say of the marks
   pub byte-same : (l : List ℕ) → Below 8 (λ k. getD l (i + k) 0 ≡ bitOf v k) → Below 8 (λ k. getD l (i + k) 0 ≡ mark z img t (i + k))

@@ -1,5 +1,5 @@
 pub mod Covering
 pub mod Eights
 pub mod Marks
+pub mod Freeing
 pub mod LowMark
-pub mod Through

@@ -19,7 +19,7 @@ use Rattle.chunks.specs.declared.Compared.the-variants.{Same, Differ}
 use Rattle.chunks.specs.Chunks.{clear, lowestClear, markedIn}
 pub use Rattle.chunks.specs.Counting.{markedBelow}
 use Rattle.chunks.specs.Counting.{MarksBelow}
-use Rattle.lists.proofs.Rows.{first-at, first-none, howMany-more, howMany-less}
+use Rattle.lists.proofs.Rows.{first-span-at, first-span-none, howMany-more, howMany-less}
 
 module _ (z : Shape) (img : List ℕ) (t : ℕ) where
   -- ---- how many are marked
@@ -62,7 +62,7 @@ module _ (z : Shape) (img : List ℕ) (t : ℕ) where
   unfolding lowestClear
   lowest-at n h f e =
       let g : first (below (z .settings .chunks)) (clear z img t) ≡ mathlib.Core.Option.some (0 + n) =
-      first-at (clear z img t) 0 (z .settings .chunks) n h (λ i l. rw zero-add (ne-eqb (mark z img t i) 0 (f i l)))
+      first-span-at (clear z img t) 0 (z .settings .chunks) n h (λ i l. rw zero-add (ne-eqb (mark z img t i) 0 (f i l)))
       (rw zero-add (eq-eqb (mark z img t n) 0 e)) in
       rw (g, zero-add)
 
@@ -70,5 +70,5 @@ module _ (z : Shape) (img : List ℕ) (t : ℕ) where
   unfolding lowestClear
   lowest-none f =
       let g : first (below (z .settings .chunks)) (clear z img t) ≡ mathlib.Core.Option.none =
-      first-none (clear z img t) 0 (z .settings .chunks) (λ i l. rw zero-add (ne-eqb (mark z img t i) 0 (f i l))) in
+      first-span-none (clear z img t) 0 (z .settings .chunks) (λ i l. rw zero-add (ne-eqb (mark z img t i) 0 (f i l))) in
       rw g

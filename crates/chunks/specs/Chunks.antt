@@ -46,7 +46,7 @@ module _ (z : Shape) (img : List ℕ) where
   abbrev pub MarksFit : ℕ → ℕ → Type 0
   MarksFit s t = Below chunks (λ i. howMany (liveIn z img s t) (covers i) ≡ mark z img t i)
 
-  pub record TierFits (s t : ℕ) : Type 0 where
+  pub record TierChunksFit (s t : ℕ) : Type 0 where
     pub marks : MarksFit s t
     pub counters : CountersFit t
 
@@ -55,7 +55,7 @@ module _ (z : Shape) (img : List ℕ) where
     pub chunksClear : Below chunks (λ i. mark z img t i ≡ 0)
 
   pub record ChunksFit : Type 0 where
-    pub tiersFit : Below segments (λ s. Every (chain z img s) (TierFits s))
+    pub tiersFit : Below segments (λ s. Every (chain z img s) (TierChunksFit s))
     pub freeFit : Every (freeChain z img) FreeTierFits
 
   -- ---- decided
@@ -69,8 +69,8 @@ module _ (z : Shape) (img : List ℕ) where
       rule (λ v. v .lowMark) (lowMarkFits? t) λ b.
       yes (record { entryCount = a; lowMark = b })
 
-  unfoldable pub tierFits? : (s t : ℕ) → Dec (TierFits s t)
-  tierFits? s t =
+  unfoldable pub tierChunksFit? : (s t : ℕ) → Dec (TierChunksFit s t)
+  tierChunksFit? s t =
       rule (λ v. v .marks) (below? (λ i. howMany (liveIn z img s t) (covers i) ≡ mark z img t i)
       (λ i. ℕ-discrete (howMany (liveIn z img s t) (covers i)) (mark z img t i)) chunks) λ a.
       rule (λ v. v .counters) (countersFit? t) λ b.
@@ -84,7 +84,8 @@ module _ (z : Shape) (img : List ℕ) where
 
   unfoldable pub chunksFit? : Dec ChunksFit
   chunksFit? =
-      rule (λ v. v .tiersFit) (below? (λ s. Every (chain z img s) (TierFits s)) (λ s. every? (TierFits s) (tierFits? s) (chain z img s)) segments) λ a.
+      rule (λ v. v .tiersFit)
+      (below? (λ s. Every (chain z img s) (TierChunksFit s)) (λ s. every? (TierChunksFit s) (tierChunksFit? s) (chain z img s)) segments) λ a.
       rule (λ v. v .freeFit) (every? FreeTierFits freeTierFits? (freeChain z img)) λ b.
       yes (record { tiersFit = a; freeFit = b })
 

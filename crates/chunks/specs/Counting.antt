@@ -1,19 +1,15 @@
--- The chunks of entries in a row, and what comparing them with the bits of a tier says.
-use Prim.Native.Nat.{ℕ, _+_, _*_, _≤_, _<_}
+-- The chunks of entries in a row, and what comparing them with the bits of a tier says. The definitions serve contracts alone.
+use Prim.Native.Nat.{ℕ, _+_, _*_, _<_}
 use mathlib.Core.List.{List, flatMap}
 use mathlib.Core.Path.{_≡_}
-use mathlib.Core.Logic.{_≢_}
 use lib.Dec.{eqb}
 use lib.ListN.{getD}
 use Rattle.lists.specs.Lists.{span, below, howMany}
 use Rattle.lists.specs.Quantify.{Below}
 use Rattle.words.specs.Bits.{bitOf}
-use Rattle.settings.specs.declared.Settings.{Settings}
 use Rattle.layout.specs.declared.Shape.{Shape}
 use Rattle.layout.specs.Places.{mark}
 use Rattle.entries.specs.declared.Live.{Live}
-use Rattle.entries.specs.Stored.{chunksFor}
-use Rattle.entries.specs.Live.{slotAt, chunkOf, entryAt}
 use Rattle.chunks.specs.declared.Compared.{Compared}
 use Rattle.chunks.specs.declared.Compared.the-variants.{Same, Differ}
 
@@ -39,9 +35,6 @@ unfoldable pub onesOf : ℕ → ℕ
 onesOf v = bitOf v 0 + bitOf v 1 + bitOf v 2 + bitOf v 3 + bitOf v 4 + bitOf v 5 + bitOf v 6 + bitOf v 7
 
 module _ (z : Shape) (img : List ℕ) where
-  open Shape z using (settings)
-  open Settings settings using (segments, slots, chunks)
-
   -- v is the byte with the bits of the 8 chunks from i on
   abbrev pub IsByte : ℕ → ℕ → ℕ → Type 0
   IsByte t i v = Below 8 (λ k. mark z img t (i + k) ≡ bitOf v k)
@@ -54,10 +47,3 @@ module _ (z : Shape) (img : List ℕ) where
   abbrev pub MarksBelow : ℕ → List ℕ → ℕ → Compared → Type 0
   MarksBelow t covered n (Same m) = Below n (λ i. getD covered i 0 ≡ mark z img t i) × (m ≡ markedBelow t n)
   MarksBelow t covered n Differ = Below n (λ i. getD covered i 0 ≡ mark z img t i) → ⊥
-
-  -- the entry of each full slot of tier t ends within the tier
-  abbrev pub RangesIn : ℕ → Type 0
-  RangesIn t =
-      Below slots (λ j.
-      slotAt z img t j ≢ 0
-      → chunkOf z img t j + chunksFor settings (entryAt z img t j .keyLength) (entryAt z img t j .valueLength) ≤ chunks)

@@ -1,21 +1,20 @@
 // The free lists, and the chunks that entries cover.
 use layout::Shape;
 ghost use mathlib.Core.Path.{_≡_};
-ghost use mathlib.Core.Logic.{_≢_};
-ghost use Prim.Native.Nat.{_+_, _*_, _/_, _%_, _<_, _≤_};
+ghost use Prim.Native.Nat.{_+_, _*_, _/_, _<_, _≤_};
 ghost use lib.ListN.{length, getD};
 ghost use Rattle.lists.specs.Decide.{Decides};
 ghost use Rattle.lists.specs.Lists.{span};
 ghost use Rattle.lists.specs.Quantify.{Below, Every};
 ghost use Rattle.words.specs.Bits.{bitOf};
-ghost use Rattle.layout.specs.Tiers.{IsTier};
-ghost use Rattle.layout.specs.Places.{freeListAt, mark};
-ghost use Rattle.layout.specs.Frame.{Framed};
-ghost use Rattle.chains.specs.Chains.{freeChain, FreeChainFits};
-ghost use Rattle.chains.specs.Walk.{tally, MetAtMost};
+ghost use Rattle.layout.specs.Places.{mark};
+ghost use Rattle.layout.specs.FramedTier.{FramedTier};
+ghost use Rattle.chains.specs.Chains.{freeChain};
+ghost use Rattle.chains.specs.Walk.{tally};
 ghost use Rattle.entries.specs.Live.{slotAt};
 ghost use Rattle.chunks.specs.Chunks.{lowestClear, LowMarkFits, FreeTierFits};
 ghost use Rattle.chunks.specs.Counting.{IsByte, IsFour, spreadOf, onesOf, MarksBelow};
+ghost use Rattle.chunks.specs.Asking.{CanCount, WholeByte, CanCompare, FramedFree};
 
 // Whether the bits of a tier are the counts of its chunks: how many are 1, or that one is not.
 pub enum Compared {
@@ -25,7 +24,7 @@ pub enum Compared {
 
 // Counts n chunks from c on once more.
 pub fn count(covered: &mut [u16], c: usize, n: usize)
-    requires { ⌜ (c + n ≤ length (now covered)) × MetAtMost (now covered) 4096 ⌝ }
+    requires { ⌜ CanCount (now covered) c n ⌝ }
     ensures { λ r. ⌜ now (covered .exit) ≡ tally (now (covered .entry)) (span c n) ⌝ }
 {
     let mut i = 0;
@@ -37,7 +36,7 @@ pub fn count(covered: &mut [u16], c: usize, n: usize)
 
 // The byte with the bits of the 8 chunks from i on, of the free list at an offset: the loops work the offset out once.
 fn byte_of(z: Shape, img: &[u8], t: usize, at: usize, i: usize) -> u8
-    requires { ⌜ Framed z (length (now img)) × IsTier z t × (at ≡ freeListAt z t) × (i + 8 ≤ z .settings .chunks) × (i % 8 ≡ 0) ⌝ }
+    requires { ⌜ WholeByte z (now img) t at i ⌝ }
     ensures { λ r. ⌜ IsByte z (now (img .entry)) t i r ⌝ }
 {
     img[at + i / 8]
@@ -98,7 +97,7 @@ fn ones(v: u8) -> usize
 
 // Whether the bit of each chunk is how many entries cover it, and how many are 1: the chunks of whole bytes.
 fn bytes_agree(z: Shape, img: &[u8], t: usize, covered: &[u16]) -> Compared
-    requires { ⌜ Framed z (length (now img)) × IsTier z t × (z .settings .chunks ≤ length (now covered)) ⌝ }
+    requires { ⌜ CanCompare z (now img) t (now covered) ⌝ }
     ensures { λ r. ⌜ MarksBelow z (now (img .entry)) t (now (covered .entry)) (z .settings .chunks / 8 * 8) r ⌝ }
 {
     let at = layout::free_list_at(z, t);
@@ -118,7 +117,7 @@ fn bytes_agree(z: Shape, img: &[u8], t: usize, covered: &[u16]) -> Compared
 
 // The same for all chunks of a tier.
 pub fn marks_agree(z: Shape, img: &[u8], t: usize, covered: &[u16]) -> Compared
-    requires { ⌜ Framed z (length (now img)) × IsTier z t × (z .settings .chunks ≤ length (now covered)) ⌝ }
+    requires { ⌜ CanCompare z (now img) t (now covered) ⌝ }
     ensures { λ r. ⌜ MarksBelow z (now (img .entry)) t (now (covered .entry)) (z .settings .chunks) r ⌝ }
 {
     let Compared::Same(first) = bytes_agree(z, img, t, covered) else {
@@ -138,16 +137,16 @@ pub fn marks_agree(z: Shape, img: &[u8], t: usize, covered: &[u16]) -> Compared
     Compared::Same(marked)
 }
 
-// Chunks of whole bytes, from the first on, that are all marked: as many as there are before a byte with a 0.
-fn marked_bytes(z: Shape, img: &[u8], t: usize) -> usize
-    requires { ⌜ Framed z (length (now img)) × IsTier z t ⌝ }
-    ensures { λ r. ⌜ (r ≤ z .settings .chunks) × Below r (λ i. mark z (now (img .entry)) t i ≢ 0) ⌝ }
+// Chunks of whole bytes, from the first on, whose marks are all b: as many as there are before a byte with another bit.
+fn whole_bytes(z: Shape, img: &[u8], t: usize, b: u8) -> usize
+    requires { ⌜ FramedTier z (now img) t × (b < 2) ⌝ }
+    ensures { λ r. ⌜ (r ≤ z .settings .chunks) × Below r (λ i. mark z (now (img .entry)) t i ≡ b) ⌝ }
 {
     let at = layout::free_list_at(z, t);
     let whole = z.settings.chunks / 8 * 8;
     let mut i = 0;
     while i < whole {
-        if byte_of(z, img, t, at, i) != 255 {
+        if byte_of(z, img, t, at, i) != b * 255 {
             return i;
         }
         i += 8;
@@ -157,10 +156,10 @@ fn marked_bytes(z: Shape, img: &[u8], t: usize) -> usize
 
 // The lowest clear chunk of a tier, or the number of chunks if none is.
 pub fn lowest_clear(z: Shape, img: &[u8], t: usize) -> usize
-    requires { ⌜ Framed z (length (now img)) × IsTier z t ⌝ }
+    requires { ⌜ FramedTier z (now img) t ⌝ }
     ensures { λ r. ⌜ r ≡ lowestClear z (now (img .entry)) t ⌝ }
 {
-    let mut i = marked_bytes(z, img, t);
+    let mut i = whole_bytes(z, img, t, 1);
     while i < z.settings.chunks {
         if layout::read::mark(z, img, t, i) == 0 {
             return i;
@@ -172,7 +171,7 @@ pub fn lowest_clear(z: Shape, img: &[u8], t: usize) -> usize
 
 // Whether the lowest free chunk field of a tier fits.
 pub fn low_mark_fits(z: Shape, img: &[u8], t: usize) -> bool
-    requires { ⌜ Framed z (length (now img)) × IsTier z t ⌝ }
+    requires { ⌜ FramedTier z (now img) t ⌝ }
     ensures { λ r. ⌜ Decides r (LowMarkFits z (now (img .entry)) t) ⌝ }
 {
     let low = lowest_clear(z, img, t);
@@ -182,29 +181,12 @@ pub fn low_mark_fits(z: Shape, img: &[u8], t: usize) -> bool
     true
 }
 
-// Chunks of whole bytes, from the first on, that are all clear: as many as there are before a byte with a 1.
-fn clear_bytes(z: Shape, img: &[u8], t: usize) -> usize
-    requires { ⌜ Framed z (length (now img)) × IsTier z t ⌝ }
-    ensures { λ r. ⌜ (r ≤ z .settings .chunks) × Below r (λ i. mark z (now (img .entry)) t i ≡ 0) ⌝ }
-{
-    let at = layout::free_list_at(z, t);
-    let whole = z.settings.chunks / 8 * 8;
-    let mut i = 0;
-    while i < whole {
-        if byte_of(z, img, t, at, i) != 0 {
-            return i;
-        }
-        i += 8;
-    }
-    i
-}
-
 // Whether all chunks of a tier are clear.
 fn all_clear(z: Shape, img: &[u8], t: usize) -> bool
-    requires { ⌜ Framed z (length (now img)) × IsTier z t ⌝ }
+    requires { ⌜ FramedTier z (now img) t ⌝ }
     ensures { λ r. ⌜ Decides r (Below (z .settings .chunks) (λ i. mark z (now (img .entry)) t i ≡ 0)) ⌝ }
 {
-    let mut i = clear_bytes(z, img, t);
+    let mut i = whole_bytes(z, img, t, 0);
     while i < z.settings.chunks {
         if layout::read::mark(z, img, t, i) != 0 {
             return false;
@@ -216,7 +198,7 @@ fn all_clear(z: Shape, img: &[u8], t: usize) -> bool
 
 // Whether all slots of a tier are empty.
 fn slots_empty(z: Shape, img: &[u8], t: usize) -> bool
-    requires { ⌜ Framed z (length (now img)) × IsTier z t ⌝ }
+    requires { ⌜ FramedTier z (now img) t ⌝ }
     ensures { λ r. ⌜ Decides r (Below (z .settings .slots) (λ j. slotAt z (now (img .entry)) t j ≡ 0)) ⌝ }
 {
     let mut j = 0;
@@ -231,7 +213,7 @@ fn slots_empty(z: Shape, img: &[u8], t: usize) -> bool
 
 // Whether the tiers of the free chain hold nothing.
 pub fn free_fits(z: Shape, img: &[u8]) -> bool
-    requires { ⌜ Framed z (length (now img)) × FreeChainFits z (now img) ⌝ }
+    requires { ⌜ FramedFree z (now img) ⌝ }
     ensures { λ r. ⌜ Decides r (Every (freeChain z (now (img .entry))) (FreeTierFits z (now (img .entry)))) ⌝ }
 {
     let mut t = layout::read::first_free(z, img) as usize;

@@ -1,6 +1,6 @@
 -- The entries of a tier's full slots, counted at their chunks one by one.
 use Prim.Native.Nat.{ℕ, suc, _+_, _≤_, _<_}
-use mathlib.Core.List.{List, [], _∷_, _++_, map, flatMap, List·Memᴰ, List·Memᴰ·head, Memᴰ·append-right}
+use mathlib.Core.List.{List, [], _∷_, _++_, map, flatMap, List·Memᴰ, List·Memᴰ·head, Memᴰ·append-right, map-append}
 use mathlib.Core.Path.{_≡_, refl, ap, sym, _∙_, subst}
 use mathlib.Core.Logic.{⊎-elim, _≢_}
 use mathlib.Core.Bool.{true, false, not, false≢true}
@@ -23,10 +23,10 @@ use Rattle.entries.specs.Live.{slotAt, fullSlots, liveAt, liveIn}
 use Rattle.entries.proofs.LiveLists.{fullSlots-in}
 use Rattle.search.specs.declared.rules.Slot.{Slot}
 use Rattle.search.specs.declared.rules.Slot.the-variants.{Fits, Broken}
-use Rattle.search.specs.Rules.{SlotHolds, SlotSays}
+use Rattle.search.specs.Landing.{SlotHolds, SlotSays}
 use Rattle.chunks.specs.Chunks.{covers}
 use Rattle.chunks.specs.Counting.{chunksOfEntry, chunksOfAll}
-use Rattle.chunks.proofs.Covering.{covered-by, chunksOfAll-more, map-more}
+use Rattle.chunks.proofs.Covering.{covered-by, chunksOfAll-more}
 use Rattle.contents.specs.Counting.{Lists, Covers}
 
 module _ (z : Shape) (img : List ℕ) (t : ℕ) {list : List ℕ} {full : ℕ} (l : Lists z img t list full) where
@@ -122,7 +122,7 @@ module _ (z : Shape) (img : List ℕ) (s t : ℕ) (list : List ℕ) (full : ℕ)
             unfolding liveAt
             covering-turns {next} eq =
                 let live : liveUpto (i + 1) ≡ liveUpto i ++ (liveAt z img s t (getD list i 0) ∷ []) =
-                ap (map (liveAt z img s t)) one-more ∙ map-more (liveAt z img s t) (take i list) (getD list i 0) in
+                ap (map (liveAt z img s t)) one-more ∙ map-append (liveAt z img s t) (take i list) (getD list i 0 ∷ []) in
                 let same : span c n ≡ chunksOfEntry (liveAt z img s t (getD list i 0)) = rw (told .1 .0, told .1 .1) refl in
                 record {
                   low = omega arith;

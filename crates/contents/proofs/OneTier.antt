@@ -10,14 +10,14 @@ use Rattle.settings.specs.declared.Settings.{Settings}
 use Rattle.layout.specs.declared.Shape.{Shape}
 use Rattle.layout.specs.Places.{get, countPlace}
 use Rattle.chains.specs.Walk.{tally}
-use Rattle.chains.proofs.Tally.{getD-tally}
-use Rattle.chains.proofs.Answer.{zeros-met}
+use Rattle.chains.proofs.Tally.{getD-tally, zeros-met}
 use Rattle.entries.specs.Live.{fullSlots, liveIn}
 use Rattle.entries.proofs.LiveLists.{fullSlots-in, in-fullSlots}
-use Rattle.search.specs.Rules.{SomeEmpty, SlotHolds}
+use Rattle.search.specs.Rules.{SomeEmpty}
+use Rattle.search.specs.Landing.{SlotHolds}
 use Rattle.chunks.specs.declared.Compared.{Compared}
 use Rattle.chunks.specs.declared.Compared.the-variants.{Same, Differ}
-use Rattle.chunks.specs.Chunks.{covers, LowMarkFits, TierFits}
+use Rattle.chunks.specs.Chunks.{covers, LowMarkFits, TierChunksFit}
 use Rattle.chunks.specs.Counting.{chunksOfAll, MarksBelow}
 use Rattle.chunks.proofs.Covering.{covered-by}
 use Rattle.chunks.proofs.Marks.{marked-all}
@@ -49,7 +49,7 @@ module _ (z : Shape) (img : List ℕ) (s t : ℕ) where
   -- ---- chunks and counters, where these hold
 
   module _ (held : TierHolds z img s t) where
-    pub tier-wrong : (TierFits z img s t → ⊥) → TierSays z img s t BadChunks
+    pub tier-wrong : (TierChunksFit z img s t → ⊥) → TierSays z img s t BadChunks
     tier-wrong n = record { so = (held, n) }
 
     module _ (few : chunks ≤ 4096) {covered : List ℕ} (v : covered ≡ tally (replicate 4096 0) (chunksOfAll (liveIn z img s t))) where

@@ -1,6 +1,6 @@
 -- The answers for a chain's tiers taken together, and for the chains one after the other.
 use Prim.Native.Nat.{ℕ, suc, _+_, _*_, _≤_, _<_}
-use mathlib.Core.List.{List, [], _∷_, _++_, flatMap, append-nil}
+use mathlib.Core.List.{List, [], _∷_, _++_, flatMap, append-nil, List·Memᴰ}
 use mathlib.Core.Path.{_≡_, refl, ap, sym, _∙_, subst}
 use mathlib.Core.Logic.{_≢_}
 use native.Mathlib.Omega.{arith}
@@ -12,17 +12,17 @@ use Rattle.lists.specs.Lists.{span, below, total}
 use Rattle.lists.specs.Quantify.{Below, Every, below-suc, every-none}
 use Rattle.lists.proofs.Members.{every-more, every-first, every-last}
 use Rattle.lists.proofs.Lists.{flatMap-append, flatMap-below, total-append, howMany-le, length-span}
+use Rattle.links.proofs.Follow.{length-follow}
+use Rattle.links.proofs.Along.{Along, along-starts, along-ends, along-in, along-turns, along-goes, along-less}
 use Rattle.settings.specs.declared.Settings.{Settings}
 use Rattle.layout.specs.declared.Shape.{Shape}
 use Rattle.layout.specs.Tiers.{tiers}
-use Rattle.chains.specs.Chains.{nextOf, chain, ChainFits}
-use Rattle.chains.proofs.Follow.{length-follow}
+use Rattle.chains.specs.Chains.{nextOf, follow, chain, ChainFits}
 use Rattle.entries.specs.declared.Live.{Live}
 use Rattle.entries.specs.Live.{slotAt, fullSlots, liveIn, liveOf}
 use Rattle.entries.proofs.LiveLists.{length-liveIn}
-use Rattle.chunks.specs.Chunks.{markedIn, TierFits}
+use Rattle.chunks.specs.Chunks.{markedIn, TierChunksFit}
 use Rattle.chunks.proofs.Marks.{marked-all, marked-le}
-use Rattle.chunks.proofs.Through.{Through, through-starts, through-short, through-ends, through-turns}
 use Rattle.contents.specs.declared.Contents.{Contents}
 use Rattle.contents.specs.declared.Contents.the-variants.{Fit}
 use Rattle.contents.specs.Counting.{Says, joined, AtMost, TierHolds, TierSays, ChainSays, AllSay}
@@ -82,28 +82,40 @@ module _ (z : Shape) (img : List ℕ) where
   -- the tiers of done were met, and sum is their answers taken together
   pub record Summing (s : ℕ) (sum : Contents) (t : ℕ) : Type 0 where
     pub done : List ℕ
-    pub through : Through z img (λ _. Unit {0}) (chain z img s) done t
-    pub says : Says (Every done (TierHolds z img s)) (Every done (TierFits z img s)) (liveOver s done) (markedOver done) sum
+    pub along : Along (nextOf z img) (tiers z) (suc s) done t
+    pub says : Says (Every done (TierHolds z img s)) (Every done (TierChunksFit z img s)) (liveOver s done) (markedOver done) sum
 
-  pub summing-starts : (s : ℕ) → ChainFits z img s → Summing s (Fit 0 0) (s + 1)
-  unfolding chain
-  summing-starts s f =
+  pub summing-starts : (s : ℕ) → Summing s (Fit 0 0) (s + 1)
+  summing-starts s =
       rw (add-one s)
       (record {
         done = [];
-        through = through-starts z img (λ _. Unit {0}) (suc s) (f .ends);
-        says = record { so = ((every-none (TierHolds z img s), every-none (TierFits z img s)), (sym (none-live s), sym none-marked)) };
+        along = along-starts (nextOf z img) (tiers z) (suc s);
+        says = record { so = ((every-none (TierHolds z img s), every-none (TierChunksFit z img s)), (sym (none-live s), sym none-marked)) };
       })
 
   pub tier-small : (s t : ℕ) (r : Contents) → slots ≤ 4096 → chunks ≤ 4096 → TierSays z img s t r → AtMost 4294967296 r
   tier-small s t r a b q = says-small 4294967296 (omega (arith, full-few a b t)) (omega (arith, marked-few a b t)) r q
 
   module _ {s : ℕ} {sum : Contents} {t : ℕ} (w : Summing s sum t) where
-    pub summing-turns : t ≢ 0 → {tier next : Contents} → TierSays z img s t tier → next ≡ joined sum tier → {u : ℕ} → u ≡ nextOf z img t → Summing s next u
-    summing-turns ne {tier} {next} q e eu =
+    -- the next tier
+    module _ (fits : ChainFits z img s) (ne : t ≢ 0) where
+      low : length (w .done) < tiers z
+      low = along-goes (w .along) (fits .ends) ne
+
+      pub summing-in : List·Memᴰ t (chain z img s)
+      unfolding chain
+      summing-in = along-in (w .along) low ne
+
+      pub summing-less : {u : ℕ} → u ≡ nextOf z img t → length (follow z img (tiers z) u) < length (follow z img (tiers z) t)
+      summing-less e = along-less (w .along) (fits .ends) ne e
+
+    pub summing-turns : ChainFits z img s → t ≢ 0 → {tier next : Contents} → TierSays z img s t tier → next ≡ joined sum tier
+        → {u : ℕ} → u ≡ nextOf z img t → Summing s next u
+    summing-turns fits ne {tier} {next} q e eu =
         record {
           done = w .done ++ (t ∷ []);
-          through = through-turns z img (w .through) ne eu tt;
+          along = along-turns (w .along) (low fits ne) ne eu;
           says =
               says-as
               (λ p. every-more (w .done) t (p .0) (p .1)) (λ p. (every-first (w .done) t p, every-last (w .done) t p))
@@ -113,18 +125,17 @@ module _ (z : Shape) (img : List ℕ) where
 
     -- the counts so far are small
     pub summing-small : slots ≤ 4096 → chunks ≤ 4096 → tiers z ≤ 1024 → AtMost 4294967296 sum
-    unfolding chain
     summing-small a b c =
         says-small 4294967296
-        (omega (arith, live-bound a b s (w .done), through-short z img (w .through), length-follow z img (tiers z) (suc s)))
-        (omega (arith, marked-bound a b (w .done), through-short z img (w .through), length-follow z img (tiers z) (suc s)))
+        (omega (arith, live-bound a b s (w .done), w .along .low))
+        (omega (arith, marked-bound a b (w .done), w .along .low))
         sum (w .says)
 
     pub summing-ends : t ≡ 0 → ChainSays z img s sum
-    unfolding liveOver markedOver liveOf
+    unfolding liveOver markedOver liveOf chain
     summing-ends e =
-        let d : w .done ≡ chain z img s = through-ends z img (w .through) e in
-        subst (λ (x : List ℕ). Says (Every x (TierHolds z img s)) (Every x (TierFits z img s)) (liveOver s x) (markedOver x) sum) d (w .says)
+        let d : w .done ≡ chain z img s = along-ends (w .along) e in
+        subst (λ (x : List ℕ). Says (Every x (TierHolds z img s)) (Every x (TierChunksFit z img s)) (liveOver s x) (markedOver x) sum) d (w .says)
 
   -- ---- the chains one after the other
 
@@ -146,11 +157,11 @@ module _ (z : Shape) (img : List ℕ) where
   module _ (fewSlots : slots ≤ 4096) (fewChunks : chunks ≤ 4096) (fewTiers : tiers z ≤ 1024) where
     live-few : (s : ℕ) → length (liveOf z img s) ≤ 4194304
     unfolding chain liveOver liveOf
-    live-few s = omega (arith, live-bound fewSlots fewChunks s (chain z img s), length-follow z img (tiers z) (suc s))
+    live-few s = omega (arith, live-bound fewSlots fewChunks s (chain z img s), length-follow (nextOf z img) (tiers z) (suc s))
 
     marks-few : (s : ℕ) → total (chain z img s) (markedIn z img) ≤ 4194304
     unfolding chain markedOver
-    marks-few s = omega (arith, marked-bound fewSlots fewChunks (chain z img s), length-follow z img (tiers z) (suc s))
+    marks-few s = omega (arith, marked-bound fewSlots fewChunks (chain z img s), length-follow (nextOf z img) (tiers z) (suc s))
 
     pub chain-small : (s : ℕ) (r : Contents) → ChainSays z img s r → AtMost 4294967296 r
     chain-small s r q = says-small 4294967296 (omega (arith, live-few s)) (omega (arith, marks-few s)) r q
@@ -182,8 +193,8 @@ module _ (z : Shape) (img : List ℕ) where
               says-as
               (λ p. rw (add-one s) (below-suc (λ s. Every (chain z img s) (TierHolds z img s)) s (p .0) (p .1)))
               (first-below (λ s. Every (chain z img s) (TierHolds z img s)) s)
-              (λ p. rw (add-one s) (below-suc (λ s. Every (chain z img s) (TierFits z img s)) s (p .0) (p .1)))
-              (first-below (λ s. Every (chain z img s) (TierFits z img s)) s)
+              (λ p. rw (add-one s) (below-suc (λ s. Every (chain z img s) (TierChunksFit z img s)) s (p .0) (p .1)))
+              (first-below (λ s. Every (chain z img s) (TierChunksFit z img s)) s)
               (more-live-first s) (more-marked-first s) next (both-say e (w .says) q);
           small = omega (arith, w .small, more-live-first s, more-marked-first s, live-few a b c s, marks-few a b c s);
         }

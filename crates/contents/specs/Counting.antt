@@ -1,4 +1,4 @@
--- What the answers for a tier, a chain and several chains say, and two answers taken together.
+-- What the answers for a tier, a chain and several chains say, and two answers taken together. The definitions serve contracts alone.
 use Prim.Native.Nat.{ℕ, _+_, _≤_}
 use mathlib.Core.List.{List, flatMap}
 use mathlib.Core.Path.{_≡_}
@@ -11,8 +11,9 @@ use Rattle.layout.specs.declared.Shape.{Shape}
 use Rattle.chains.specs.Chains.{chain, freeChain}
 use Rattle.chains.specs.Walk.{tally}
 use Rattle.entries.specs.Live.{fullSlots, liveIn, liveOf}
-use Rattle.search.specs.Rules.{SlotsFit, LandsIn, SlotHolds}
-use Rattle.chunks.specs.Chunks.{TierFits, FreeTierFits, markedIn}
+use Rattle.search.specs.Rules.{SlotsFit}
+use Rattle.search.specs.Landing.{LandsIn, SlotHolds}
+use Rattle.chunks.specs.Chunks.{TierChunksFit, FreeTierFits, markedIn}
 use Rattle.chunks.specs.Counting.{chunksOfAll}
 use Rattle.contents.specs.declared.Contents.{Contents}
 use Rattle.contents.specs.declared.Contents.the-variants.{Fit, BadChunks, BadEntries}
@@ -59,18 +60,18 @@ module _ (z : Shape) (img : List ℕ) where
     pub lands : LandsIn z img t
 
   abbrev pub TierSays : ℕ → ℕ → Contents → Type 0
-  TierSays s t = Says (TierHolds s t) (TierFits z img s t) (length (fullSlots z img t)) (markedIn z img t)
+  TierSays s t = Says (TierHolds s t) (TierChunksFit z img s t) (length (fullSlots z img t)) (markedIn z img t)
 
   -- of the tiers of segment s's chain
   abbrev pub ChainSays : ℕ → Contents → Type 0
   ChainSays s =
-      Says (Every (chain z img s) (TierHolds s)) (Every (chain z img s) (TierFits z img s)) (length (liveOf z img s))
+      Says (Every (chain z img s) (TierHolds s)) (Every (chain z img s) (TierChunksFit z img s)) (length (liveOf z img s))
       (total (chain z img s) (markedIn z img))
 
   -- of the tiers of the first n segments' chains
   abbrev pub AllSay : ℕ → Contents → Type 0
   AllSay n =
-      Says (Below n (λ s. Every (chain z img s) (TierHolds s))) (Below n (λ s. Every (chain z img s) (TierFits z img s)))
+      Says (Below n (λ s. Every (chain z img s) (TierHolds s))) (Below n (λ s. Every (chain z img s) (TierChunksFit z img s)))
       (length (flatMap (liveOf z img) (below n))) (total (flatMap (chain z img) (below n)) (markedIn z img))
 
   -- of the free tiers, of which no rule of slots and entries is asked

@@ -3,16 +3,11 @@ use chunks::Compared;
 use layout::Shape;
 use search::rules::Slot;
 ghost use mathlib.Core.Path.{_≡_};
-ghost use Prim.Native.Nat.{_<_, _≤_};
-ghost use lib.ListN.{length};
-ghost use Rattle.lists.specs.Quantify.{Below};
-ghost use Rattle.layout.specs.Tiers.{IsTier};
-ghost use Rattle.layout.specs.Frame.{Framed};
-ghost use Rattle.chains.specs.Chains.{ChainFits, FreeChainFits, ChainsFit};
-ghost use Rattle.chains.specs.Walk.{MetAtMost};
-ghost use Rattle.search.specs.Search.{ChainTiers};
+ghost use Rattle.search.specs.Asking.{ChainedTier};
+ghost use Rattle.chunks.specs.Asking.{FramedFree};
 ghost use Rattle.contents.specs.Contents.{contentsOf};
 ghost use Rattle.contents.specs.Counting.{joined as Counting·joined, AtMost, Lists, Covers, TierSays, ChainSays, AllSay, FreeSays};
+ghost use Rattle.contents.specs.Asking.{CanJoin, CanList, CanCover, FittingChain, FittingChains};
 
 // All rules hold, with the live entries and the marked chunks; a rule of chunks or counters is broken; a rule of slots or entries is.
 pub enum Contents {
@@ -23,7 +18,7 @@ pub enum Contents {
 
 // Two answers as one: a broken rule of slots or entries comes first.
 fn joined(a: Contents, b: Contents) -> Contents
-    requires { ⌜ AtMost 4294967296 a × AtMost 4294967296 b ⌝ }
+    requires { ⌜ CanJoin a b ⌝ }
     ensures { λ r. ⌜ r ≡ Counting·joined a b ⌝ }
 {
     match a {
@@ -43,8 +38,8 @@ fn joined(a: Contents, b: Contents) -> Contents
 
 // Lists the full slots of a tier; how many there are. Each slot is written, and kept only if it is full: a branch would be
 // mispredicted at every other slot.
-fn full_slots(z: Shape, img: &[u8], t: usize, list: &mut [u16]) -> usize
-    requires { ⌜ Framed z (length (now img)) × IsTier z t × (z .settings .slots ≤ length (now list)) ⌝ }
+fn list_full(z: Shape, img: &[u8], t: usize, list: &mut [u16]) -> usize
+    requires { ⌜ CanList z (now img) t (now list) ⌝ }
     ensures { λ r. ⌜ Lists z (now (img .entry)) t (now (list .exit)) r ⌝ }
 {
     let last = z.settings.slots - 1;
@@ -70,7 +65,7 @@ fn cover(
     full: usize,
     covered: &mut [u16],
 ) -> bool
-    requires { ⌜ Framed z (length (now img)) × ChainTiers z (now img) × (s < z .settings .segments) × IsTier z t × Lists z (now img) t (now list) full × (z .settings .chunks ≤ length (now covered)) × MetAtMost (now covered) 0 ⌝ }
+    requires { ⌜ CanCover z (now img) s t (now list) full (now covered) ⌝ }
     ensures { λ r. ⌜ Covers z (now (img .entry)) s t (now (covered .entry)) (now (covered .exit)) r ⌝ }
 {
     let mut i = 0;
@@ -87,14 +82,14 @@ fn cover(
 
 // One tier of segment s's chain: its full slots and its marked chunks.
 fn tier_contents(z: Shape, img: &[u8], s: usize, t: usize) -> Contents
-    requires { ⌜ Framed z (length (now img)) × ChainTiers z (now img) × (s < z .settings .segments) × IsTier z t ⌝ }
+    requires { ⌜ ChainedTier z (now img) s t ⌝ }
     ensures { λ r. ⌜ TierSays z (now (img .entry)) s t r ⌝ }
 {
     if !search::rules::some_empty(z, img, t) {
         return Contents::BadEntries;
     }
     let mut list = [0u16; 4096];
-    let full = full_slots(z, img, t, &mut list);
+    let full = list_full(z, img, t, &mut list);
     let mut covered = [0u16; 4096];
     if !cover(z, img, s, t, &list, full, &mut covered) {
         return Contents::BadEntries;
@@ -113,7 +108,7 @@ fn tier_contents(z: Shape, img: &[u8], s: usize, t: usize) -> Contents
 
 // The tiers of segment s's chain.
 fn chain_contents(z: Shape, img: &[u8], s: usize) -> Contents
-    requires { ⌜ Framed z (length (now img)) × ChainTiers z (now img) × (s < z .settings .segments) × ChainFits z (now img) s ⌝ }
+    requires { ⌜ FittingChain z (now img) s ⌝ }
     ensures { λ r. ⌜ ChainSays z (now (img .entry)) s r ⌝ }
 {
     let mut sum = Contents::Fit(0, 0);
@@ -127,7 +122,7 @@ fn chain_contents(z: Shape, img: &[u8], s: usize) -> Contents
 
 // The tiers of all chains.
 fn chained_contents(z: Shape, img: &[u8]) -> Contents
-    requires { ⌜ Framed z (length (now img)) × ChainTiers z (now img) × Below (z .settings .segments) (ChainFits z (now img)) ⌝ }
+    requires { ⌜ FittingChains z (now img) ⌝ }
     ensures { λ r. ⌜ AllSay z (now (img .entry)) (z .settings .segments) r × AtMost 4294967296 r ⌝ }
 {
     let mut sum = Contents::Fit(0, 0);
@@ -141,7 +136,7 @@ fn chained_contents(z: Shape, img: &[u8]) -> Contents
 
 // The free tiers, which hold nothing.
 fn free_contents(z: Shape, img: &[u8]) -> Contents
-    requires { ⌜ Framed z (length (now img)) × FreeChainFits z (now img) ⌝ }
+    requires { ⌜ FramedFree z (now img) ⌝ }
     ensures { λ r. ⌜ FreeSays z (now (img .entry)) r ⌝ }
 {
     if chunks::free_fits(z, img) {
@@ -152,7 +147,7 @@ fn free_contents(z: Shape, img: &[u8]) -> Contents
 
 // What the tiers of an image hold whose chains fit.
 pub fn contents_of(z: Shape, img: &[u8]) -> Contents
-    requires { ⌜ Framed z (length (now img)) × ChainTiers z (now img) × ChainsFit z (now img) ⌝ }
+    requires { ⌜ FittingChains z (now img) ⌝ }
     ensures { λ r. ⌜ r ≡ contentsOf z (now (img .entry)) ⌝ }
 {
     joined(chained_contents(z, img), free_contents(z, img))

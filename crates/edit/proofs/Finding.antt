@@ -15,7 +15,7 @@ use Rattle.layout.specs.declared.Shape.{Shape}
 use Rattle.layout.specs.Tiers.{IsTier}
 use Rattle.layout.specs.Frame.{Image}
 use Rattle.chains.specs.Chains.{chain}
-use Rattle.chains.proofs.Along.{chain-tiers}
+use Rattle.chains.proofs.Tiers.{chain-tiers}
 use Rattle.entries.specs.declared.Live.{Live}
 use Rattle.entries.specs.Keys.{segmentOf}
 use Rattle.entries.specs.Stored.{keyOf}
@@ -25,7 +25,8 @@ use Rattle.entries.proofs.LiveLists.{IsLive, in-live, live-in}
 use Rattle.search.specs.declared.Found.the-variants.{At, Absent}
 use Rattle.search.specs.Search.{seekIn, search}
 use Rattle.search.specs.Rules.{keyAt, SlotsFit}
-use Rattle.search.proofs.Landing.{found-at, seek-in-lt, seek-key, lands}
+use Rattle.search.proofs.Finding.{found-at, seekIn-lt}
+use Rattle.search.proofs.Landing.{seek-key, lands}
 use Rattle.search.proofs.Fitting.{never-both}
 use Rattle.upkeep.specs.Sound.{SoundImage}
 use Rattle.upkeep.proofs.Sound.{sound-image}
@@ -54,9 +55,6 @@ module _ (z : Shape) (img : List ℕ) (sound : SoundImage z img) where
   live-key : (s t j : ℕ) → keyOf img (liveAt z img s t j .entry) ≡ keyAt z img t j
   unfolding liveAt keyAt
   live-key s t j = refl
-
-  tiers-of : (s : ℕ) → s < segments → Every (chain z img s) (IsTier z)
-  tiers-of s h = chain-tiers z img s h (sound .fits .chains .segmentsFit s h)
 
   slots-fit : (s : ℕ) → s < segments → Every (chain z img s) (SlotsFit z img s)
   slots-fit s h t m = sound .fits .entries .tiersFit s h t m .slotsFit
@@ -107,8 +105,9 @@ module _ (z : Shape) (img : List ℕ) (sound : SoundImage z img) where
         let is : seekIn z img key t ≡ j = f .0 in
         let full : slotAt z img t j ≢ 0 = f .1 .0 in
         let im : Image z img = sound-image z img sound in
-        let lt : j < slots = rw is at (seek-in-lt z img im t (tiers-of _ hs t mt) (slots-fit _ hs t mt .someEmpty) key) in
-        let k : keyAt z img t j ≡ key = rw is at (seek-key z img im t (tiers-of _ hs t mt) (slots-fit _ hs t mt .someEmpty) key (rw is full)) in
+        let it : IsTier z t = chain-tiers z img (sound .fits .chains) _ hs t mt in
+        let lt : j < slots = rw is at (seekIn-lt z img (im .framed) key t) in
+        let k : keyAt z img t j ≡ key = rw is at (seek-key z img im t it (slots-fit _ hs t mt .someEmpty) key (rw is full)) in
         found-only (liveAt z img (segmentOf settings key) t j) (in-live z img _ t j hs mt lt full) (live-key _ t j ∙ k)
 
     pub search-none : (t j : ℕ) → search z img key ≡ Absent t j → find z img key ≡ none
@@ -122,7 +121,7 @@ module _ (z : Shape) (img : List ℕ) (sound : SoundImage z img) where
             let kx : keyOf img (x .entry) ≡ keyAt z img (x .tier) (x .slot) =
             ap (λ (y : Live). keyOf img (y .entry)) (l .is) ∙ live-key (x .segment) (x .tier) (x .slot) in
             let f : search z img (keyAt z img (x .tier) (x .slot)) ≡ At (x .tier) (x .slot) =
-            lands z img (sound-image z img sound) (x .segment) (tiers-of _ (l .segmentIn)) (slots-fit _ (l .segmentIn))
+            lands z img (sound-image z img sound) (x .segment) (chain-tiers z img (sound .fits .chains) _ (l .segmentIn)) (slots-fit _ (l .segmentIn))
             (sound .fits .entries .keysOnce _ (l .segmentIn))
             (λ u mu. sound .fits .entries .tiersFit _ (l .segmentIn) u mu .reached) (x .tier) (l .tierIn) (x .slot) (l .slotIn) (l .full) in
             never-both (search z img key) (x .tier) (x .slot) t j (ap (search z img) (sym (sym kx ∙ k)) ∙ f) e

@@ -8,14 +8,11 @@ use mathlib.Core.Option.{Option, none, some}
 use native.Mathlib.Omega.{arith}
 use lib.ListN.{length}
 use borrow.Author.Tests.{eq-eqb, ne-eqb}
-use Rattle.lists.specs.Quantify.{Every}
 use Rattle.settings.specs.declared.Settings.{Settings}
 use Rattle.layout.specs.declared.Shape.{Shape}
 use Rattle.layout.specs.Tiers.{IsTier}
-use Rattle.layout.specs.Places.{get, global, usedTiers}
 use Rattle.layout.specs.Frame.{Framed}
-use Rattle.chains.specs.Chains.{chain, freeHead}
-use Rattle.chains.proofs.Along.{chain-tiers}
+use Rattle.chains.proofs.Tiers.{chain-tiers}
 use Rattle.entries.specs.declared.Entry.{Entry}
 use Rattle.entries.specs.declared.Live.{Live}
 use Rattle.entries.specs.Keys.{KeyFits, segmentOf}
@@ -23,7 +20,7 @@ use Rattle.entries.specs.Stored.{chunksFor, keyOf}
 use Rattle.entries.specs.Live.{chunkOf, entryAt, liveAt}
 use Rattle.entries.proofs.LiveLists.{IsLive, live-in}
 use Rattle.entries.proofs.Whole.{entry-small}
-use Rattle.leb128.specs.Leb128.{largest}
+use Rattle.entries.specs.Asking.{Lengths}
 use Rattle.search.specs.declared.Found.{Found}
 use Rattle.search.specs.declared.Found.the-variants.{At, Absent}
 use Rattle.search.specs.Search.{search, ChainTiers}
@@ -37,11 +34,11 @@ use Rattle.placement.specs.declared.Old.{Old}
 use Rattle.placement.specs.Placement.{placeAt}
 use Rattle.joining.specs.Joining.{join}
 use Rattle.edit.specs.Edits.{find, withoutEntry, without, removedEntry, removeImage, tierOf}
-use Rattle.edit.specs.Replaced.{oldOf, withoutOld, replacedOld, extendedOld, OldFits, isThere, Extends}
+use Rattle.edit.specs.Replaced.{oldOf, withoutOld, replacedOld, extendedOld, OldFits, isThere}
 use Rattle.edit.proofs.Finding.{find-live, search-found, search-none}
 
 -- the lengths that were read are small
-pub entry-lengths : (z : Shape) (img : List ℕ) (t j : ℕ) (e : Entry) → e ≡ entryAt z img t j → (e .keyLength ≤ largest) × (e .valueLength ≤ largest)
+pub entry-lengths : (z : Shape) (img : List ℕ) (t j : ℕ) (e : Entry) → e ≡ entryAt z img t j → Lengths (e .keyLength) (e .valueLength)
 unfolding entryAt
 entry-lengths z img t j e is = rw is (entry-small z img t (chunkOf z img t j))
 
@@ -71,17 +68,12 @@ module _ (z : Shape) (img : List ℕ) (old : Old) where
       e₄ ∙ ap (λ (x : List ℕ). settle z x (touched t (old .tier)))
       (e₃ ∙ ap (λ (x : List ℕ). placeAt z x t 0 key value) (e₂ ∙ ap (λ (x : List ℕ). join z x s) e₁))
 
-pub extends-joins : {z : Shape} {img : List ℕ} {old : Old} {s t : ℕ} {key value : List ℕ} → Extends z img old s t key value
-    → {one : List ℕ} → one ≡ withoutOld z img old
-    → Every (chain z one s) (IsTier z) × IsTier z (freeHead z one) × (get z one (global usedTiers) < 1024)
-extends-joins w e = rw e (w .chainIn, w .headIn, w .usedFew)
-
 module _ (z : Shape) (img : List ℕ) {C : Type 0} (sound : SoundWith C z img) where
   pub sound-framed : Framed z (length img)
   sound-framed = sound-image z img sound .framed
 
   pub sound-tiers : ChainTiers z img
-  sound-tiers s h = chain-tiers z img s h (sound .fits .chains .segmentsFit s h)
+  sound-tiers = chain-tiers z img (sound .fits .chains)
 
 module _ (z : Shape) (img : List ℕ) (sound : SoundImage z img) where
   open Shape z using (settings)

@@ -1,39 +1,39 @@
 -- What the code of a store knows at each step, by the scan's answer.
-use Prim.Native.Nat.{ℕ, _+_, _*_, _≤_, _<_}
-use mathlib.Core.List.{List, _++_}
+use Prim.Native.Nat.{ℕ, _<_}
+use mathlib.Core.List.{List}
 use mathlib.Core.Path.{_≡_, refl, ap, ap₂, sym, _∙_}
 use mathlib.Core.Logic.{_≢_}
 use mathlib.Core.Bool.{true, false}
 use native.Mathlib.Omega.{arith}
-use lib.ListN.{length, length-append}
+use lib.ListN.{length}
 use borrow.Author.Tests.{eq-eqb, ne-eqb}
+use Rattle.words.specs.Bytes.{Bytes}
 use Rattle.settings.specs.declared.Settings.{Settings}
 use Rattle.layout.specs.declared.Shape.{Shape}
-use Rattle.layout.specs.Tiers.{tiers, IsTier}
+use Rattle.layout.specs.Tiers.{IsTier}
 use Rattle.layout.specs.Places.{get, global, usedTiers}
-use Rattle.chains.specs.Chains.{chain, freeHead, freeChain, chainedExtra}
+use Rattle.chains.specs.Chains.{chain, freeHead}
 use Rattle.xxh64.specs.Hash.{xxh64}
 use Rattle.entries.specs.Keys.{segmentOfHash, segmentOf}
 use Rattle.entries.proofs.Sizes.{chunks-pos}
 use Rattle.entries.specs.Stored.{chunksFor}
 use Rattle.entries.proofs.Hashes.{segment-lt}
-use Rattle.chunks.specs.Chunks.{clear}
 use Rattle.upkeep.specs.Sound.{SoundWith, SoundImage, SoundBut}
 use Rattle.upkeep.specs.Recount.{settle, touched}
-use Rattle.upkeep.proofs.Counts.{extras-number}
 use Rattle.placement.specs.declared.Old.{Old}
 use Rattle.placement.specs.declared.Run.{Run}
 use Rattle.placement.specs.declared.Run.the-variants.{At, Nowhere}
-use Rattle.placement.specs.Runs.{firstRun, runFor, fullIn, fullBut, clearBut}
+use Rattle.placement.specs.Runs.{firstRun, fullBut, clearBut}
 use Rattle.placement.specs.Placement.{placeAt}
-use Rattle.placement.proofs.Running.{run-found}
+use Rattle.placement.proofs.Before.{can-place}
 use Rattle.joining.specs.Joining.{join}
-use Rattle.joining.proofs.Ends.{new-tier, free-cons}
+use Rattle.joining.proofs.Ends.{new-tier, used-small}
 use Rattle.edit.specs.Edits.{find, without, runOf, noRoom, placeIn, tierOf, storeImage}
 use Rattle.edit.specs.Replaced.{oldOf, withoutOld, replacedOld, extendedOld, Stores, Storable, Replaces, Extends}
 use Rattle.edit.proofs.Without.{left, without-sound, without-head}
 use Rattle.edit.proofs.Replacing.{sound-framed, sound-tiers, old-fits, old-out, old-tier}
 use Rattle.edit.proofs.Scanning.{scan-is}
+use Rattle.edit.proofs.Storing.{fits-at, fits-free}
 
 -- an entry takes a chunk at least
 pub some-chunks : {z : Shape} {img key value : List ℕ} → Storable z img key value → (n : ℕ) → n ≡ chunksFor (z .settings) (length key) (length value)
@@ -44,31 +44,32 @@ some-chunks {z} {img} {key} {value} w n e =
 -- a sound image with a free tier uses fewer than 1,024
 used-few : {C : Type 0} (z : Shape) (img : List ℕ) → SoundWith C z img → (s : ℕ) → s < z .settings .segments → freeHead z img ≢ 0
     → get z img (global usedTiers) < 1024
-unfolding tiers
-used-few z img sound s hs ne =
-    let n : length (chainedExtra z img ++ freeChain z img) ≡ z .bulks * z .settings .bulkTiers = extras-number z img (sound .fits .chains) in
-    omega (
-      arith,
-      sound .fits .chains .usedIs,
-      length-append (chainedExtra z img) (freeChain z img),
-      ap length (free-cons z img s hs (sound .fits .chains) ne),
-      sound .fits .frame .tierCount,
-    )
+used-few z img sound s hs ne = omega (arith, used-small z img s hs (sound .fits .chains) ne, sound .fits .frame .tierCount)
 
 -- what a store knows after its scan
 pub record Scanned (z : Shape) (img key value : List ℕ) (old : Old) (s n : ℕ) (r : Run) : Type 0 where
   pub storable : Storable z img key value
+  pub keyBytes : Bytes key
+  pub valueBytes : Bytes value
   pub oldIs : old ≡ oldOf (find z img key)
   pub segmentIs : s ≡ segmentOf (z .settings) key
   pub chunksIs : n ≡ chunksFor (z .settings) (length key) (length value)
   pub runIs : r ≡ firstRun z (fullBut z img old) (clearBut z img old) (chain z img s) n
 
-pub scanned : {z : Shape} {img key value : List ℕ} {old : Old} {h s n : ℕ} {r : Run} → Storable z img key value → n ≡ chunksFor (z .settings) (length key) (length value)
-    → h ≡ xxh64 key → s ≡ segmentOfHash (z .settings) h → old ≡ oldOf (find z img key)
+pub scanned : {z : Shape} {img key value : List ℕ} {old : Old} {h s n : ℕ} {r : Run} → Storable z img key value → Bytes key → Bytes value
+    → n ≡ chunksFor (z .settings) (length key) (length value) → h ≡ xxh64 key → s ≡ segmentOfHash (z .settings) h → old ≡ oldOf (find z img key)
     → r ≡ firstRun z (fullBut z img old) (clearBut z img old) (chain z img s) n → Scanned z img key value old s n r
 unfolding segmentOf
-scanned {z} w en eh es eo er =
-    record { storable = w; oldIs = eo; segmentIs = es ∙ ap (segmentOfHash (z .settings)) eh; chunksIs = en; runIs = er }
+scanned {z} w kb vb en eh es eo er =
+    record {
+      storable = w;
+      keyBytes = kb;
+      valueBytes = vb;
+      oldIs = eo;
+      segmentIs = es ∙ ap (segmentOfHash (z .settings)) eh;
+      chunksIs = en;
+      runIs = er;
+    }
 
 module _ {z : Shape} {img key value : List ℕ} {old : Old} {s n : ℕ} {r : Run} (w : Scanned z img key value old s n r) where
   open Shape z using (settings)
@@ -93,18 +94,6 @@ module _ {z : Shape} {img key value : List ℕ} {old : Old} {s n : ℕ} {r : Run
   hs : segmentOf settings key < segments
   hs = segment-lt (sound .fits .valid) key
 
-  -- what both ends ask for, by the tier and the chunk
-  replaces : (t c : ℕ) → IsTier z t → c + chunksFor settings (length key) (length value) ≤ chunks → Replaces z (length img) old t c key value
-  replaces t c it h =
-      record {
-        framed = sound-framed z img sound;
-        oldFits = old-fits z img sound key old (w .oldIs);
-        tierIn = it;
-        keyLong = w .storable .keyFits .1;
-        valueLong = w .storable .valueLong;
-        rangeEnds = h;
-      }
-
   -- ---- no tier takes it, and none is free
 
   pub no-room : (head : ℕ) → r ≡ Nowhere → head ≡ freeHead z img → head ≡ 0 → Stores z img key value false img
@@ -114,12 +103,13 @@ module _ {z : Shape} {img key value : List ℕ} {old : Old} {s n : ℕ} {r : Run
   -- ---- a tier of the chain takes it
 
   module _ (t c : ℕ) (f : r ≡ At t c) where
-    pub run-replaces : Replaces z (length img) old t c key value
-    unfolding runOf runFor
+    pub run-replaces : Replaces z img old t c key value
     run-replaces =
-        let g : _ = run-found z (fullIn z img₁) (clear z img₁) (chain z img₁ (segmentOf settings key)) (chunksFor settings (length key) (length value))
-        t c (sym run-is ∙ f) in
-        replaces t c (sound-tiers z img₁ sound₁ (segmentOf settings key) hs t (g .0)) (g .2)
+        record {
+          framed = sound-framed z img sound;
+          oldFits = old-fits z img sound key old (w .oldIs);
+          places = rw old-is (can-place (fits-at z img key value (w .storable) (w .keyBytes) (w .valueBytes) t c (sym run-is ∙ f)));
+        }
 
     pub run-stored : {y : List ℕ} → y ≡ replacedOld z img old t c key value → Stores z img key value true y
     unfolding noRoom storeImage placeIn replacedOld
@@ -145,11 +135,18 @@ module _ {z : Shape} {img key value : List ℕ} {old : Old} {s n : ℕ} {r : Run
     pub free-extends : Extends z img old s head key value
     free-extends =
         record {
-          replaces = replaces head 0 (rw head-is head-tier) (omega (arith, w .storable .notTooMany, sound .fits .valid .mostChunks));
-          segmentIn = rw (w .segmentIs) hs;
-          chainIn = rw (old-is, w .segmentIs) (sound-tiers z img₁ sound₁ (segmentOf settings key) hs);
-          headIn = rw old-is head-tier;
-          usedFew = rw old-is (used-few z img₁ sound₁ (segmentOf settings key) hs some-free);
+          framed = sound-framed z img sound;
+          oldFits = old-fits z img sound key old (w .oldIs);
+          places = rw (old-is, head-is, w .segmentIs) (can-place (fits-free z img key value (w .storable) (w .keyBytes) (w .valueBytes) some-free));
+          joins = rw (old-is, w .segmentIs) (record {
+            follows = record {
+              framed = sound-framed z img₁ sound₁;
+              segmentIn = hs;
+              tiersOf = sound-tiers z img₁ sound₁ (segmentOf settings key) hs;
+            };
+            freeIn = head-tier;
+            fewUsed = used-few z img₁ sound₁ (segmentOf settings key) hs some-free;
+          });
         }
 
     pub free-stored : {y : List ℕ} → y ≡ extendedOld z img old s head key value → Stores z img key value true y

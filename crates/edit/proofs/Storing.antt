@@ -87,7 +87,7 @@ module _ (z : Shape) (img : List ℕ) (key value : List ℕ) (w : Storable z img
 
   -- ---- in a tier of the chain
 
-  fits-at : (t c : ℕ) → runOf z img₁ key value ≡ At t c → Places z img₁ gone s t c key value
+  pub fits-at : (t c : ℕ) → runOf z img₁ key value ≡ At t c → Places z img₁ gone s t c key value
   unfolding runOf runFor
   fits-at t c e =
       let r : List·Memᴰ t (chain z img₁ s) × (fullIn z img₁ t + 2 ≤ slots) × (c + n ≤ chunks) × ((i : ℕ) → c ≤ i → i < c + n → clear z img₁ t i ≡ true) =
@@ -110,7 +110,7 @@ module _ (z : Shape) (img : List ℕ) (key value : List ℕ) (w : Storable z img
 
   -- ---- in the first free tier
 
-  fits-free : freeHead z img₁ ≢ 0 → Places z (join z img₁ s) (freeHead z img₁ ∷ gone) s (freeHead z img₁) 0 key value
+  pub fits-free : freeHead z img₁ ≢ 0 → Places z (join z img₁ s) (freeHead z img₁ ∷ gone) s (freeHead z img₁) 0 key value
   fits-free ne =
       record {
         segmentIn = hs;

@@ -7,12 +7,9 @@ use mathlib.Core.Bool.{Bool, true, false}
 use mathlib.Core.Option.{Option, none, some}
 use lib.Dec.{eqb}
 use lib.ListN.{length}
-use Rattle.lists.specs.Quantify.{Every}
 use Rattle.layout.specs.declared.Shape.{Shape}
 use Rattle.layout.specs.Tiers.{IsTier}
-use Rattle.layout.specs.Places.{get, global, usedTiers}
 use Rattle.layout.specs.Frame.{Framed}
-use Rattle.chains.specs.Chains.{chain, freeHead}
 use Rattle.entries.specs.declared.Live.{Live}
 use Rattle.entries.specs.Keys.{KeyFits}
 use Rattle.entries.specs.Stored.{chunksFor}
@@ -20,8 +17,9 @@ use Rattle.upkeep.specs.Sound.{SoundImage}
 use Rattle.upkeep.specs.Recount.{settle, touched}
 use Rattle.removal.specs.Removal.{removeAt}
 use Rattle.placement.specs.declared.Old.{Old}
+use Rattle.placement.specs.Asking.{CanPlace}
 use Rattle.placement.specs.Placement.{placeAt}
-use Rattle.joining.specs.Joining.{join}
+use Rattle.joining.specs.Joining.{join, CanJoin}
 use Rattle.edit.specs.Edits.{noRoom, storeImage}
 
 unfoldable pub oldOf : Option Live → Old
@@ -63,17 +61,13 @@ pub record Storable (z : Shape) (img key value : List ℕ) : Type 0 where
   pub notTooMany : chunksFor (z .settings) (length key) (length value) ≤ z .settings .mostChunks
 
 -- what its two ends ask for, once the place is known
-pub record Replaces (z : Shape) (len : ℕ) (old : Old) (t c : ℕ) (key value : List ℕ) : Type 0 where
-  pub framed : Framed z len
+pub record Replaces (z : Shape) (img : List ℕ) (old : Old) (t c : ℕ) (key value : List ℕ) : Type 0 where
+  pub framed : Framed z (length img)
   pub oldFits : OldFits z old
-  pub tierIn : IsTier z t
-  pub keyLong : length key ≤ 1024
-  pub valueLong : length value ≤ 65535
-  pub rangeEnds : c + chunksFor (z .settings) (length key) (length value) ≤ z .settings .chunks
+  pub places : CanPlace z (withoutOld z img old) t c key value
 
 pub record Extends (z : Shape) (img : List ℕ) (old : Old) (s t : ℕ) (key value : List ℕ) : Type 0 where
-  pub replaces : Replaces z (length img) old t 0 key value
-  pub segmentIn : s < z .settings .segments
-  pub chainIn : Every (chain z (withoutOld z img old) s) (IsTier z)
-  pub headIn : IsTier z (freeHead z (withoutOld z img old))
-  pub usedFew : get z (withoutOld z img old) (global usedTiers) < 1024
+  pub framed : Framed z (length img)
+  pub oldFits : OldFits z old
+  pub joins : CanJoin z (withoutOld z img old) s
+  pub places : CanPlace z (join z (withoutOld z img old) s) t 0 key value

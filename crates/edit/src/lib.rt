@@ -60,7 +60,7 @@ pub fn remove(z: Shape, img: &mut [u8], key: &[u8]) -> bool
 
 // The new entry goes to tier t, in the chunks from c on. The counters follow when all else is written.
 fn replace(z: Shape, img: &mut [u8], old: Old, t: usize, c: usize, key: &[u8], value: &[u8])
-    requires { ⌜ Replaces z (length (now img)) old t c (now key) (now value) ⌝ }
+    requires { ⌜ Replaces z (now img) old t c (now key) (now value) ⌝ }
     ensures { λ r. ⌜ now (img .exit) ≡ replacedOld z (now (img .entry)) old t c (now (key .entry)) (now (value .entry)) ⌝ }
 {
     take_out(z, img, old);

@@ -12,7 +12,7 @@ use Rattle.lists.specs.Cases.{by-test}
 use Rattle.settings.specs.declared.Settings.{Settings}
 use Rattle.settings.specs.Rules.{Valid}
 use Rattle.xxh64.specs.Hash.{xxh64}
-use Rattle.entries.specs.Keys.{segmentOfHash, segmentOf, lookupOfHash, lookupKey}
+use Rattle.entries.specs.Keys.{segmentOfHash, segmentOf, lookupOfHash, lookupKey, start}
 
 module _ (st : Settings) (h : ℕ) where
   open Settings st using (segments, keyBits)
@@ -38,8 +38,8 @@ module _ {st : Settings} (v : Valid st) where
       (λ t. rw (lookup-ones st h (eqb-true _ _ t)) (omega (arith, two-le)))
       (λ t. rw (lookup-part st h (eqb-false _ _ t)) (omega (arith, eqb-false (h / segments % 2 ^ keyBits) 0 t, mod-lt (h / segments) (pow-pos keyBits))))
 
-  pub lookup-is : (h r : ℕ) → r ≡ lookupOfHash st h → (r ≡ lookupOfHash st h) × (0 < r) × (r < 2 ^ keyBits)
-  lookup-is h r e = (e, omega (arith, lookup-bounds h), omega (arith, lookup-bounds h))
+  pub lookup-bounds-of : (h r : ℕ) → r ≡ lookupOfHash st h → (r ≡ lookupOfHash st h) × (0 < r) × (r < 2 ^ keyBits)
+  lookup-bounds-of h r e = (e, omega (arith, lookup-bounds h), omega (arith, lookup-bounds h))
 
   -- never 0, so that a slot with it is never empty
   pub lookup-full : (key : List ℕ) → lookupKey st key ≢ 0
@@ -49,6 +49,9 @@ module _ {st : Settings} (v : Valid st) where
   pub lookup-lt : (key : List ℕ) → lookupKey st key < 2 ^ keyBits
   unfolding lookupKey
   lookup-lt key = lookup-bounds (xxh64 key) .1
+
+  pub start-lt : (lookup : ℕ) → start st lookup < slots
+  start-lt lookup = mod-lt lookup (omega (arith, v .slots))
 
   pub segmentOfHash-lt : (h : ℕ) → segmentOfHash st h < segments
   segmentOfHash-lt h = mod-lt h (v .segments .1 .0)

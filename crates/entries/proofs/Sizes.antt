@@ -1,33 +1,24 @@
 -- The sizes of an entry: of its bytes, and of the chunks that they take.
-use Prim.Native.Nat.{ℕ, _+_, _-_, _*_, _≤_, _<_}
+use Prim.Native.Nat.{ℕ, _+_, _*_, _≤_, _<_}
 use mathlib.Core.Path.{_≡_}
 use mathlib.Core.List.{List}
 use native.Mathlib.Omega.{arith}
-use native.Mathlib.Nat.{div-add-mod', mod-lt, one-mul, le-div-iff-mul-le}
 use lib.ListN.{length, length-append}
-use Rattle.lists.specs.Lists.{ceil}
+use Rattle.lists.proofs.Numbers.{ceil-enough, ceil-pos}
 use Rattle.settings.specs.declared.Settings.{Settings}
 use Rattle.settings.specs.Rules.{Valid}
-use Rattle.leb128.specs.Leb128.{largest}
-use Rattle.leb128.proofs.Encode.{encode-size}
+use Rattle.leb128.specs.Leb128.{largestLength, largestLength}
+use Rattle.leb128.proofs.Encode.{length-encode}
 use Rattle.entries.specs.Stored.{valueOffset, entrySize, chunksFor, entryBytes}
-
--- ---- a quotient rounded up
-
-pub ceil-enough : (a b : ℕ) → 0 < b → a ≤ ceil a b * b
-ceil-enough a b h = omega (arith, div-add-mod' (a + b - 1) b, mod-lt (a + b - 1) h)
-
-ceil-pos : (a b : ℕ) → 0 < a → 0 < b → 0 < ceil a b
-ceil-pos a b h k = le-div-iff-mul-le k .1 (rw one-mul (omega arith))
 
 -- ---- lengths that are read are small
 
-module _ (st : Settings) (k v : ℕ) (hk : k ≤ largest) (hv : v ≤ largest) where
+module _ (st : Settings) (k v : ℕ) (hk : k ≤ largestLength) (hv : v ≤ largestLength) where
   open Settings st using (chunkSize)
 
   pub offset-bounds : (2 + k ≤ valueOffset st k v) × (valueOffset st k v ≤ 6 + k)
   unfolding valueOffset
-  offset-bounds = omega (arith, encode-size k hk, encode-size v hv)
+  offset-bounds = omega (arith, length-encode k hk, length-encode v hv)
 
   module _ (vs : Valid st) where
     pub chunks-pos : 0 < chunksFor st k v

@@ -11,8 +11,8 @@ use Rattle.lists.specs.Cases.{lt-or}
 use Rattle.words.specs.Bytes.{cut}
 use Rattle.leb128.specs.declared.Decoded.{Decoded}
 use Rattle.leb128.specs.declared.Decoded.the-variants.{Number, Refused}
-use Rattle.leb128.specs.Leb128.{encode, decode, largest, Stands}
-use Rattle.leb128.proofs.Encode.{encode-size}
+use Rattle.leb128.specs.Leb128.{encode, decode, largestLength, largestLength, EncodedAt}
+use Rattle.leb128.proofs.Encode.{length-encode}
 use Rattle.leb128.proofs.Decode.{decode-end, decode-sound, decode-complete}
 use Rattle.settings.specs.declared.Settings.{Settings}
 use Rattle.settings.specs.Rules.{Valid}
@@ -25,6 +25,7 @@ use Rattle.entries.specs.declared.Entry.{Entry}
 use Rattle.entries.specs.declared.Stored.{Stored}
 use Rattle.entries.specs.declared.Stored.the-variants.{Whole, Broken}
 use Rattle.entries.specs.Stored.{valueOffset, entrySize, chunksFor, entryBytes, afterValueLength, afterKeyLength, upToChunks, stored, entryOf, keyOf, valueOf}
+use Rattle.entries.specs.Asking.{Lengths}
 use Rattle.entries.proofs.Sizes.{chunks-enough, length-entry}
 use Rattle.words.proofs.Cuts.{drop-take, cut-take, cut-within, cut-front, cut-back, cut-room}
 
@@ -33,27 +34,27 @@ use Rattle.words.proofs.Cuts.{drop-take, cut-take, cut-within, cut-front, cut-b
 abbrev Read : Decoded → ℕ → ℕ → Type 0
 Read d n next = d ≡ Number n next
 
-value-read : (at k : ℕ) (d : Decoded) (e : Entry) → afterValueLength at k d ≡ Whole e
+afterValueLength-whole : (at k : ℕ) (d : Decoded) (e : Entry) → afterValueLength at k d ≡ Whole e
     → (e .keyAt ≡ at) × (e .keyLength ≡ k) × Read d (e .valueLength) (e .valueAt)
 unfolding afterValueLength
-value-read at k Refused e h = absurd (let z : _≡_ {A = ℕ} 0 1 = cc in omega arith)
-value-read at k (Number v next) e h =
+afterValueLength-whole at k Refused e h = absurd (let z : _≡_ {A = ℕ} 0 1 = cc in omega arith)
+afterValueLength-whole at k (Number v next) e h =
     let same : record { keyAt = at; keyLength = k; valueAt = next; valueLength = v } ≡ e = cc in
     (ap (λ (x : Entry). x .keyAt) (sym same), ap (λ (x : Entry). x .keyLength) (sym same), ap (λ (x : Entry). Number (x .valueLength) (x .valueAt)) same)
 
-key-read : (bytes : List ℕ) (d : Decoded) (e : Entry) → afterKeyLength bytes d ≡ Whole e
+afterKeyLength-whole : (bytes : List ℕ) (d : Decoded) (e : Entry) → afterKeyLength bytes d ≡ Whole e
     → Read d (e .keyLength) (e .keyAt) × Read (decode bytes (e .keyAt + e .keyLength)) (e .valueLength) (e .valueAt)
 unfolding afterKeyLength
-key-read bytes Refused e h = absurd (let z : _≡_ {A = ℕ} 0 1 = cc in omega arith)
-key-read bytes (Number k next) e h =
+afterKeyLength-whole bytes Refused e h = absurd (let z : _≡_ {A = ℕ} 0 1 = cc in omega arith)
+afterKeyLength-whole bytes (Number k next) e h =
     let p : (e .keyAt ≡ next) × (e .keyLength ≡ k) × Read (decode bytes (next + k)) (e .valueLength) (e .valueAt) =
-    value-read next k (decode bytes (next + k)) e h in
+    afterValueLength-whole next k (decode bytes (next + k)) e h in
     (cc, rw (p .0, p .1) (p .2))
 
 -- read by offsets that were computed
-pub read-at : (z : Shape) (img : List ℕ) (t : ℕ) {end a b : ℕ} → end ≡ chunkAt z t (z .settings .chunks) → a ≡ b
+pub decode-upToChunks : (z : Shape) (img : List ℕ) (t : ℕ) {end a b : ℕ} → end ≡ chunkAt z t (z .settings .chunks) → a ≡ b
     → decode (upToChunks z img t) b ≡ decode (take end img) a
-read-at z img t e f = rw (e, f)
+decode-upToChunks z img t e f = rw (e, f)
 
 -- the other way round: what was read gives what is stored
 
@@ -61,34 +62,35 @@ module _ (z : Shape) (img : List ℕ) (t c : ℕ) where
   open Shape z using (settings)
   open Settings settings using (chunks, chunkSize)
 
-  pub key-refused : decode (upToChunks z img t) (chunkAt z t c) ≡ Refused → stored z img t c ≡ Broken
+  pub stored-key-refused : decode (upToChunks z img t) (chunkAt z t c) ≡ Refused → stored z img t c ≡ Broken
   unfolding stored afterKeyLength
-  key-refused e = rw (e, stored)
+  stored-key-refused e = rw (e, stored)
 
-  pub value-refused : {k next : ℕ} → decode (upToChunks z img t) (chunkAt z t c) ≡ Number k next → decode (upToChunks z img t) (next + k) ≡ Refused
+  pub stored-value-refused : {k next : ℕ} → decode (upToChunks z img t) (chunkAt z t c) ≡ Number k next → decode (upToChunks z img t) (next + k) ≡ Refused
       → stored z img t c ≡ Broken
   unfolding stored afterKeyLength afterValueLength
-  value-refused e f = rw (e, stored, f)
+  stored-value-refused e f = rw (e, stored, f)
 
-  pub both-read : {k next v after : ℕ} → decode (upToChunks z img t) (chunkAt z t c) ≡ Number k next → decode (upToChunks z img t) (next + k) ≡ Number v after
+  pub stored-both-read : {k next v after : ℕ} → decode (upToChunks z img t) (chunkAt z t c) ≡ Number k next
+      → decode (upToChunks z img t) (next + k) ≡ Number v after
       → stored z img t c ≡ Whole (record { keyAt = next; keyLength = k; valueAt = after; valueLength = v })
   unfolding stored afterKeyLength afterValueLength
-  both-read e f = rw (e, stored, f)
+  stored-both-read e f = rw (e, stored, f)
 
   -- nothing is read past the chunks
-  up-length : length (upToChunks z img t) ≤ chunkAt z t chunks
-  up-length = rw length-take (omega arith)
+  length-upToChunks : length (upToChunks z img t) ≤ chunkAt z t chunks
+  length-upToChunks = rw length-take (omega arith)
 
   pub stored-past : chunks ≤ c → stored z img t c ≡ Broken
   stored-past h =
-      key-refused (decode-end (upToChunks z img t) (chunkAt z t c)
-      (omega (arith, up-length, chunk-at z t c, chunk-at z t chunks, mul-le-mul-right chunkSize h)))
+      stored-key-refused (decode-end (upToChunks z img t) (chunkAt z t c)
+      (omega (arith, length-upToChunks, chunk-at z t c, chunk-at z t chunks, mul-le-mul-right chunkSize h)))
 
   -- ---- a whole entry: its lengths stand in their shortest forms, within the chunks
 
   pub record WholeAt (e : Entry) : Type 0 where
-    pub keySmall : e .keyLength ≤ largest
-    pub valueSmall : e .valueLength ≤ largest
+    pub keySmall : e .keyLength ≤ largestLength
+    pub valueSmall : e .valueLength ≤ largestLength
     pub keyIs : e .keyAt ≡ chunkAt z t c + length (encode (e .keyLength))
     pub valueIs : e .valueAt ≡ chunkAt z t c + valueOffset settings (e .keyLength) (e .valueLength)
     pub valueWithin : e .valueAt ≤ chunkAt z t chunks
@@ -96,15 +98,15 @@ module _ (z : Shape) (img : List ℕ) (t c : ℕ) where
     pub valueForm : cut img (e .keyAt + e .keyLength) (length (encode (e .valueLength))) ≡ encode (e .valueLength)
 
   -- a form that is read in the part up to the chunks' end stands in the image
-  in-image : (at n next : ℕ) → Stands (upToChunks z img t) at n next → (next ≤ chunkAt z t chunks) × (cut img at (length (encode n)) ≡ encode n)
+  in-image : (at n next : ℕ) → EncodedAt (upToChunks z img t) at n next → (next ≤ chunkAt z t chunks) × (cut img at (length (encode n)) ≡ encode n)
   in-image at n next s =
-      let size : 1 ≤ length (encode n) = encode-size n (s .small) .0 in
+      let size : 1 ≤ length (encode n) = length-encode n (s .small) .0 in
       let room : at + length (encode n) ≤ length (upToChunks z img t) = cut-room (upToChunks z img t) at (length (encode n)) size (ap length (s .form)) in
-      (omega (arith, s .after, up-length), sym (cut-take img (chunkAt z t chunks) at (length (encode n)) (omega (arith, up-length))) ∙ s .form)
+      (omega (arith, s .after, length-upToChunks), sym (cut-take img (chunkAt z t chunks) at (length (encode n)) (omega (arith, length-upToChunks))) ∙ s .form)
 
-  in-part : (at n next : ℕ) → n ≤ largest → next ≡ at + length (encode n) → next ≤ chunkAt z t chunks → cut img at (length (encode n)) ≡ encode n
-      → Stands (upToChunks z img t) at n next
-  in-part at n next small after within form =
+  in-chunks : (at n next : ℕ) → n ≤ largestLength → next ≡ at + length (encode n) → next ≤ chunkAt z t chunks → cut img at (length (encode n)) ≡ encode n
+      → EncodedAt (upToChunks z img t) at n next
+  in-chunks at n next small after within form =
       record { small = small; form = cut-take img (chunkAt z t chunks) at (length (encode n)) (omega arith) ∙ form; after = after }
 
   pub whole-sound : (e : Entry) → stored z img t c ≡ Whole e → WholeAt e
@@ -112,9 +114,9 @@ module _ (z : Shape) (img : List ℕ) (t c : ℕ) where
   whole-sound e h =
       let p : Read (decode (upToChunks z img t) (chunkAt z t c)) (e .keyLength) (e .keyAt)
       × Read (decode (upToChunks z img t) (e .keyAt + e .keyLength)) (e .valueLength) (e .valueAt) =
-      key-read (upToChunks z img t) (decode (upToChunks z img t) (chunkAt z t c)) e h in
-      let k : Stands (upToChunks z img t) (chunkAt z t c) (e .keyLength) (e .keyAt) = decode-sound _ _ _ _ (p .0) in
-      let v : Stands (upToChunks z img t) (e .keyAt + e .keyLength) (e .valueLength) (e .valueAt) = decode-sound _ _ _ _ (p .1) in
+      afterKeyLength-whole (upToChunks z img t) (decode (upToChunks z img t) (chunkAt z t c)) e h in
+      let k : EncodedAt (upToChunks z img t) (chunkAt z t c) (e .keyLength) (e .keyAt) = decode-sound _ _ _ _ (p .0) in
+      let v : EncodedAt (upToChunks z img t) (e .keyAt + e .keyLength) (e .valueLength) (e .valueAt) = decode-sound _ _ _ _ (p .1) in
       record {
         keySmall = k .small;
         valueSmall = v .small;
@@ -129,29 +131,29 @@ module _ (z : Shape) (img : List ℕ) (t c : ℕ) where
   unfolding valueOffset
   whole-complete e w =
       let after : e .valueAt ≡ e .keyAt + e .keyLength + length (encode (e .valueLength)) = omega (arith, w .valueIs, w .keyIs) in
-      both-read
-      (decode-complete _ _ _ _ (in-part (chunkAt z t c) (e .keyLength) (e .keyAt) (w .keySmall) (w .keyIs) (omega (arith, w .valueWithin)) (w .keyForm)))
-      (decode-complete _ _ _ _ (in-part (e .keyAt + e .keyLength) (e .valueLength) (e .valueAt) (w .valueSmall) after (w .valueWithin) (w .valueForm)))
+      stored-both-read
+      (decode-complete _ _ _ _ (in-chunks (chunkAt z t c) (e .keyLength) (e .keyAt) (w .keySmall) (w .keyIs) (omega (arith, w .valueWithin)) (w .keyForm)))
+      (decode-complete _ _ _ _ (in-chunks (e .keyAt + e .keyLength) (e .valueLength) (e .valueAt) (w .valueSmall) after (w .valueWithin) (w .valueForm)))
 
   -- the lengths are small, read or not
-  small-entry : (s : Stored) → stored z img t c ≡ s → (entryOf s .keyLength ≤ largest) × (entryOf s .valueLength ≤ largest)
-  small-entry (Whole e) h = let w : WholeAt e = whole-sound e h in (w .keySmall, w .valueSmall)
-  small-entry Broken h = omega arith
+  lengths-small : (s : Stored) → stored z img t c ≡ s → Lengths (entryOf s .keyLength) (entryOf s .valueLength)
+  lengths-small (Whole e) h = let w : WholeAt e = whole-sound e h in record { keySmall = w .keySmall; valueSmall = w .valueSmall }
+  lengths-small Broken h = omega arith
 
-  pub entry-small : (entryOf (stored z img t c) .keyLength ≤ largest) × (entryOf (stored z img t c) .valueLength ≤ largest)
-  entry-small = small-entry (stored z img t c) refl
+  pub entry-small : Lengths (entryOf (stored z img t c) .keyLength) (entryOf (stored z img t c) .valueLength)
+  entry-small = lengths-small (stored z img t c) refl
 
   -- where the value's length is looked for is a small number
-  pub key-room : {k next : ℕ} → Framed z (length img) → IsTier z t → decode (upToChunks z img t) (chunkAt z t c) ≡ Number k next → next + k ≤ 2 ^ 25
-  key-room {k} {next} fr it h =
-      let s : Stands (upToChunks z img t) (chunkAt z t c) k next = decode-sound _ _ _ _ h in
+  pub key-end-small : {k next : ℕ} → Framed z (length img) → IsTier z t → decode (upToChunks z img t) (chunkAt z t c) ≡ Number k next → next + k ≤ 2 ^ 25
+  key-end-small {k} {next} fr it h =
+      let s : EncodedAt (upToChunks z img t) (chunkAt z t c) k next = decode-sound _ _ _ _ h in
       omega (arith, s .small, in-image (chunkAt z t c) k next s .0, chunks-inside fr t it, fr .within, fr .small)
 
   module _ {e : Entry} (w : WholeAt e) where
     -- the key ends before the value starts, and so within the chunks
     pub key-before : e .keyAt + e .keyLength < e .valueAt
     unfolding valueOffset
-    key-before = omega (arith, w .keyIs, w .valueIs, encode-size (e .valueLength) (w .valueSmall))
+    key-before = omega (arith, w .keyIs, w .valueIs, length-encode (e .valueLength) (w .valueSmall))
 
     pub key-within : e .keyAt + e .keyLength ≤ chunkAt z t chunks
     key-within = omega (arith, key-before, w .valueWithin)
@@ -183,10 +185,10 @@ decode-ext : (l l′ : List ℕ) (at : ℕ) → drop at l ≡ drop at l′ → d
 unfolding decode
 decode-ext l l′ at e = rw e
 
-after-ext : (l l′ : List ℕ) (a : ℕ) → drop a l ≡ drop a l′ → (d : Decoded) → decode l a ≡ d → afterKeyLength l d ≡ afterKeyLength l′ d
+afterKeyLength-ext : (l l′ : List ℕ) (a : ℕ) → drop a l ≡ drop a l′ → (d : Decoded) → decode l a ≡ d → afterKeyLength l d ≡ afterKeyLength l′ d
 unfolding afterKeyLength
-after-ext l l′ a e Refused h = refl
-after-ext l l′ a e (Number k next) h =
+afterKeyLength-ext l l′ a e Refused h = refl
+afterKeyLength-ext l l′ a e (Number k next) h =
     let i : ℕ = next + k - a in
     let there : a + i ≡ next + k = omega (arith, decode-sound l a k next h .after) in
     let later : drop (a + i) l ≡ drop (a + i) l′ = sym (drop-drop i a l) ∙ ap (drop i) e ∙ drop-drop i a l′ in
@@ -207,7 +209,7 @@ module _ (z : Shape) (img img′ : List ℕ) (t c : ℕ) where
       (λ (h : c < chunks).
       let le : c ≤ chunks = omega arith in
       let e : drop (chunkAt z t c) (upToChunks z img t) ≡ drop (chunkAt z t c) (upToChunks z img′ t) = from-chunk img le ∙ same le ∙ sym (from-chunk img′ le) in
-      after-ext (upToChunks z img t) (upToChunks z img′ t) (chunkAt z t c) e _ refl
+      afterKeyLength-ext (upToChunks z img t) (upToChunks z img′ t) (chunkAt z t c) e _ refl
       ∙ ap (afterKeyLength (upToChunks z img′ t)) (decode-ext (upToChunks z img t) (upToChunks z img′ t) (chunkAt z t c) e))
       (λ h. stored-past z img t c h ∙ sym (stored-past z img′ t c h))
       (lt-or c chunks)
@@ -257,13 +259,13 @@ module _ (z : Shape) (img : List ℕ) (t c : ℕ) (key value : List ℕ) where
   open Settings settings using (chunks)
 
   -- the entry with these bytes
-  abbrev made : Entry
-  made = entryHere z t c (length key) (length value)
+  abbrev whole : Entry
+  whole = entryHere z t c (length key) (length value)
 
-  pub stored-whole : length key ≤ largest → length value ≤ largest
+  pub stored-whole : length key ≤ largestLength → length value ≤ largestLength
       → cut img (chunkAt z t c) (length (entryBytes settings key value)) ≡ entryBytes settings key value
       → chunkAt z t c + length (entryBytes settings key value) ≤ chunkAt z t chunks
-      → (stored z img t c ≡ Whole made) × (keyOf img made ≡ key) × (valueOf img made ≡ value)
+      → (stored z img t c ≡ Whole whole) × (keyOf img whole ≡ key) × (valueOf img whole ≡ value)
   unfolding entryBytes valueOffset
   stored-whole hk hv bytes room =
       let a : ℕ = chunkAt z t c in
@@ -274,7 +276,7 @@ module _ (z : Shape) (img : List ℕ) (t c : ℕ) (key value : List ℕ) where
       let at-value : cut img (a + length (k ++ key ++ v)) (length value) ≡ value = cut-back img a (k ++ key ++ v) value bytes in
       let to-v : a + length (k ++ key) ≡ a + length k + length key = rw length-append (omega arith) in
       let to-value : a + length (k ++ key ++ v) ≡ a + (length k + length key + length v) = simp length-append (omega arith) in (
-        whole-complete z img t c made
+        whole-complete z img t c whole
             (record {
               keySmall = hk;
               valueSmall = hv;

@@ -1,3 +1,4 @@
 pub mod Keys
 pub mod Stored
 pub mod Live
+pub mod Asking

@@ -4,6 +4,7 @@ ghost use mathlib.Core.Path.{_≡_};
 ghost use Prim.Native.Nat.{_-_, _%_, _^_, _<_};
 ghost use Rattle.settings.specs.Rules.{PowerOfTwo, Valid};
 ghost use Rattle.entries.specs.Keys.{segmentOfHash, lookupOfHash, start as Keys·start, slotKey, slotChunk, slotRest, slotWith};
+ghost use Rattle.entries.specs.Asking.{SlotParts};
 
 // n bits that are 1.
 fn ones(n: usize) -> u64
@@ -30,7 +31,7 @@ fn log2(x: usize) -> usize
 }
 
 // The remainder by a power of two.
-fn below(x: u64, n: usize) -> usize
+fn remainder(x: u64, n: usize) -> usize
     requires { ⌜ PowerOfTwo n ⌝ }
     ensures { λ r. ⌜ (r ≡ x % n) × (r < n) ⌝ }
 {
@@ -65,7 +66,7 @@ pub fn slot_rest(st: Settings, v: u64) -> u64
 
 // The slot with a lookup key and a chunk.
 pub fn slot_with(st: Settings, lookup: u64, chunk: usize) -> u64
-    requires { ⌜ Valid st × (lookup < 2 ^ st .keyBits) × (chunk < 2 ^ st .chunkBits) ⌝ }
+    requires { ⌜ SlotParts st lookup chunk ⌝ }
     ensures { λ r. ⌜ r ≡ slotWith st lookup chunk ⌝ }
 {
     lookup | ((chunk as u64) << st.keyBits)
@@ -76,7 +77,7 @@ pub fn segment_of_hash(st: Settings, h: u64) -> usize
     requires { ⌜ Valid st ⌝ }
     ensures { λ r. ⌜ (r ≡ segmentOfHash st h) × (r < st .segments) ⌝ }
 {
-    below(h, st.segments)
+    remainder(h, st.segments)
 }
 
 // Its lookup key: never 0, so that the slot of chunk 0 does not look empty.
@@ -96,5 +97,5 @@ pub fn start(st: Settings, lookup: u64) -> usize
     requires { ⌜ Valid st ⌝ }
     ensures { λ r. ⌜ (r ≡ Keys·start st lookup) × (r < st .slots) ⌝ }
 {
-    below(lookup, st.slots)
+    remainder(lookup, st.slots)
 }

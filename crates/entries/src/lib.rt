@@ -6,9 +6,9 @@ pub mod read;
 
 ghost use mathlib.Core.Path.{_≡_};
 ghost use Prim.Native.Nat.{_+_, _≤_};
-ghost use Rattle.settings.specs.Rules.{Valid};
-ghost use Rattle.leb128.specs.Leb128.{largest};
+ghost use Rattle.leb128.specs.Leb128.{largestLength};
 ghost use Rattle.entries.specs.Stored.{valueOffset, chunksFor};
+ghost use Rattle.entries.specs.Asking.{Lengths, Measures};
 
 // Where a stored entry's key and value stand in the image, and how long they are.
 pub struct Entry {
@@ -36,7 +36,7 @@ pub struct Live {
 
 // Where the value starts, after the entry's first byte, by the lengths of key and value.
 pub fn value_offset(st: Settings, k: usize, v: usize) -> usize
-    requires { ⌜ (k ≤ largest) × (v ≤ largest) ⌝ }
+    requires { ⌜ Lengths k v ⌝ }
     ensures { λ r. ⌜ (r ≡ valueOffset st k v) × (r ≤ 6 + k) ⌝ }
 {
     leb128::size(k) + k + leb128::size(v)
@@ -44,7 +44,7 @@ pub fn value_offset(st: Settings, k: usize, v: usize) -> usize
 
 // The chunks that an entry covers, by these lengths.
 pub fn chunks_for(st: Settings, k: usize, v: usize) -> usize
-    requires { ⌜ Valid st × (k ≤ largest) × (v ≤ largest) ⌝ }
+    requires { ⌜ Measures st k v ⌝ }
     ensures { λ r. ⌜ r ≡ chunksFor st k v ⌝ }
 {
     let size = value_offset(st, k, v) + v;

@@ -5,11 +5,10 @@ use super::Stored;
 use layout::Shape;
 use leb128::Decoded;
 ghost use mathlib.Core.Path.{_≡_};
-ghost use Prim.Native.Nat.{_+_, _<_, _≤_};
+ghost use Prim.Native.Nat.{_+_, _≤_};
 ghost use lib.ListN.{length};
 ghost use Rattle.words.specs.Bytes.{cut, same};
-ghost use Rattle.layout.specs.Tiers.{IsTier};
-ghost use Rattle.layout.specs.Frame.{Framed};
+ghost use Rattle.layout.specs.FramedTier.{FramedTier, FramedSlot};
 ghost use Rattle.entries.specs.Stored.{stored as Stored·stored, entryOf};
 ghost use Rattle.entries.specs.Live.{chunkOf, entryAt, liveAt};
 
@@ -33,7 +32,7 @@ pub fn same_key(img: &[u8], at: usize, n: usize, key: &[u8]) -> bool
 
 // What stands at chunk c of a tier. Nothing past the tier's chunks is read.
 pub fn stored(z: Shape, img: &[u8], t: usize, c: usize) -> Stored
-    requires { ⌜ Framed z (length (now img)) × IsTier z t ⌝ }
+    requires { ⌜ FramedTier z (now img) t ⌝ }
     ensures { λ r. ⌜ r ≡ Stored·stored z (now (img .entry)) t c ⌝ }
 {
     if z.settings.chunks <= c {
@@ -72,7 +71,7 @@ fn entry_of(s: Stored) -> Entry
 
 // The first chunk that slot j of a tier names.
 pub fn chunk_of(z: Shape, img: &[u8], t: usize, j: usize) -> usize
-    requires { ⌜ Framed z (length (now img)) × IsTier z t × (j < z .settings .slots) ⌝ }
+    requires { ⌜ FramedSlot z (now img) t j ⌝ }
     ensures { λ r. ⌜ r ≡ chunkOf z (now (img .entry)) t j ⌝ }
 {
     super::keys::slot_chunk(z.settings, layout::read::slot(z, img, t, j))
@@ -80,7 +79,7 @@ pub fn chunk_of(z: Shape, img: &[u8], t: usize, j: usize) -> usize
 
 // The entry there.
 pub fn entry_at(z: Shape, img: &[u8], t: usize, j: usize) -> Entry
-    requires { ⌜ Framed z (length (now img)) × IsTier z t × (j < z .settings .slots) ⌝ }
+    requires { ⌜ FramedSlot z (now img) t j ⌝ }
     ensures { λ r. ⌜ r ≡ entryAt z (now (img .entry)) t j ⌝ }
 {
     entry_of(stored(z, img, t, chunk_of(z, img, t, j)))
@@ -88,7 +87,7 @@ pub fn entry_at(z: Shape, img: &[u8], t: usize, j: usize) -> Entry
 
 // The live entry of slot j of a tier in segment s's chain.
 pub fn live_at(z: Shape, img: &[u8], s: usize, t: usize, j: usize) -> Live
-    requires { ⌜ Framed z (length (now img)) × IsTier z t × (j < z .settings .slots) ⌝ }
+    requires { ⌜ FramedSlot z (now img) t j ⌝ }
     ensures { λ r. ⌜ r ≡ liveAt z (now (img .entry)) s t j ⌝ }
 {
     let chunk = chunk_of(z, img, t, j);

@@ -14,7 +14,7 @@ use Rattle.layout.specs.declared.Shape.{Shape}
 use Rattle.layout.specs.Frame.{shapeOf, FrameFits, frameFits?, Framed}
 use Rattle.layout.proofs.Frames.{frame-fits, frame-framed}
 use Rattle.chains.specs.Chains.{ChainsFit, chainsFit?}
-use Rattle.chains.proofs.Along.{chain-tiers}
+use Rattle.chains.proofs.Tiers.{chain-tiers}
 use Rattle.search.specs.Search.{ChainTiers}
 use Rattle.search.specs.Rules.{EntriesFit, entriesFit?}
 use Rattle.chunks.specs.Chunks.{ChunksFit, chunksFit?}
@@ -105,4 +105,4 @@ module _ (block img : List ℕ) where
         (rw (f .shape) (frame-fits (settingsOf block) img (rw (f .shape) at (f .image .frame))))
 
     pub ready-tiers : ChainTiers z img
-    ready-tiers s h = chain-tiers z img s h (ready-fitting .image .chains .segmentsFit s h)
+    ready-tiers s h = chain-tiers z img (ready-fitting .image .chains) s h

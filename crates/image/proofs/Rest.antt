@@ -13,11 +13,11 @@ use borrow.Author.Tests.{ne-eqb, eq-eqb}
 use Rattle.lists.specs.Lists.{span, those}
 use Rattle.lists.specs.Quantify.{every-none}
 use Rattle.lists.proofs.Rows.{from-next, from-end, from-zero, those-keep, those-drop}
+use Rattle.links.proofs.Follow.{follow-none, follow-more, follow-out}
 use Rattle.settings.specs.declared.Settings.{Settings}
 use Rattle.layout.specs.declared.Shape.{Shape}
 use Rattle.layout.specs.Tiers.{tiers, IsTier}
 use Rattle.chains.specs.Chains.{follow, chain, nextOf}
-use Rattle.chains.proofs.Follow.{follow-none, follow-more}
 use Rattle.entries.specs.declared.Live.{Live}
 use Rattle.entries.specs.Live.{slotAt, fullSlots, liveAt, liveIn, liveOf, live}
 use Rattle.search.specs.Search.{ChainTiers}
@@ -109,16 +109,16 @@ module _ (z : Shape) (img : List ℕ) where
     open LiveCursor d using (segment, tier, left, slot)
 
     none-left : left ≡ 0 → ahead z img d ≡ liveSince z img (segment + 1)
-    unfolding ahead follow liveFrom
-    none-left e = rw e
+    unfolding ahead liveFrom
+    none-left e = rw (e, follow-out (nextOf z img) tier)
 
     chain-over : tier ≡ 0 → ahead z img d ≡ liveSince z img (segment + 1)
     unfolding ahead liveFrom
-    chain-over e = rw (e, follow-none z img left)
+    chain-over e = rw (e, follow-none (nextOf z img) left)
 
     module _ (some : left ≢ 0) (ne : tier ≢ 0) where
       follow-here : follow z img left tier ≡ tier ∷ follow z img (left - 1) (nextOf z img tier)
-      follow-here = let e : left ≡ suc (left - 1) = omega arith in ap (λ (n : ℕ). follow z img n tier) e ∙ follow-more z img (left - 1) tier ne
+      follow-here = let e : left ≡ suc (left - 1) = omega arith in ap (λ (n : ℕ). follow z img n tier) e ∙ follow-more (nextOf z img) (left - 1) tier ne
 
       pub met-tier : InChain z img d → IsTier z tier
       met-tier w = rw follow-here at (w .tiersIn) tier (List·Memᴰ·head refl)
@@ -210,9 +210,11 @@ module _ (z : Shape) (img : List ℕ) where
 
   module _ {d : LiveCursor} (w : InChain z img d) where
     pub moves-end : d .tier ≡ 0 → Moves z img d (atEnd d)
-    unfolding follow
     moves-end e =
-        moves-on (record { segmentIn = w .segmentIn; tiersIn = every-none (IsTier z) }) (chain-over d e ∙ sym (none-left (atEnd d) refl)) refl
+        moves-on
+        (record { segmentIn = w .segmentIn; tiersIn = rw (follow-out (nextOf z img) (d .tier)) (every-none (IsTier z)) })
+        (chain-over d e ∙ sym (none-left (atEnd d) refl))
+        refl
 
     pub moves-next : d .left ≢ 0 → d .tier ≢ 0 → slots ≤ d .slot → {t : ℕ} → t ≡ nextOf z img (d .tier) → Moves z img d (atTier d t)
     moves-next some ne h e =

@@ -15,7 +15,7 @@ use Rattle.layout.proofs.Frames.{frame-fits, frame-only, frame-framed, Fitting}
 use Rattle.chains.specs.declared.Chains.the-variants as chains
 use Rattle.chains.specs.Chains.{chained, freeChain, ChainsFit, chainsFit?, chainsOf}
 use Rattle.chains.proofs.Answer.{chains-fit, chains-only}
-use Rattle.chains.proofs.Along.{chain-tiers}
+use Rattle.chains.proofs.Tiers.{chain-tiers}
 use Rattle.entries.specs.Live.{live}
 use Rattle.search.specs.Search.{ChainTiers}
 use Rattle.search.specs.Rules.{EntriesFit, entriesFit?}
@@ -98,7 +98,7 @@ module _ (st : Settings) (img : List ℕ) where
       chains-here = chains-only z img m n c
 
       pub tiers-here : ChainTiers z img
-      tiers-here s h = chain-tiers z img s h (chains-here .segmentsFit s h)
+      tiers-here = chain-tiers z img chains-here
 
       at-entries : afterEntries z img (entriesFit? z img) ≡ target
       at-entries = sym (chains-yes z img (chainsFit? z img) chains-here) ∙ at-chains

@@ -1,5 +1,5 @@
 -- After a free tier joined the end of a chain the chains fit.
-use Prim.Native.Nat.{ℕ, _+_, _-_, _<_}
+use Prim.Native.Nat.{ℕ, _+_, _<_}
 use mathlib.Core.List.{List, [], _∷_, _++_, List·Memᴰ, List·Memᴰ·append-cases, List·Memᴰ·eq-of-singleton}
 use mathlib.Core.Path.{_≡_, refl, ap, sym, _∙_, subst, subst₂}
 use mathlib.Core.Logic.{⊎-elim, _≢_}
@@ -16,21 +16,16 @@ use Rattle.layout.specs.Tiers.{IsTier, IsExtra}
 use Rattle.layout.specs.Places.{previous, segment, order}
 use Rattle.chains.specs.Chains.{chain, freeHead, freeChain, chained, chainedExtra, Once, StandsAt, ChainFits, ChainsFit}
 use Rattle.joining.specs.Joining.{lastTier}
-use Rattle.upkeep.proofs.Chained.{chain-in-tiers}
-use Rattle.joining.proofs.Following.{lastOf, last-cons}
-use Rattle.joining.proofs.EndOfChain.{chain-some}
+use Rattle.chains.proofs.Tiers.{chain-tiers}
+use Rattle.joining.proofs.EndOfChain.{last-after, chain-some}
 use Rattle.joining.proofs.Ends.{free-cons, new-extra, not-new}
-use Rattle.joining.proofs.Adding.{parts-longer}
+use Rattle.lists.proofs.Parts.{parts-longer}
 use Rattle.joining.proofs.Chains.{others, others-free, other-chain, other-ends, longer-chain, longer-ends, shorter-free, free-ends}
 use Rattle.joining.proofs.Writes.{Joins}
 
 drop-append : (xs ys : List ℕ) → 0 < length xs → drop 1 (xs ++ ys) ≡ drop 1 xs ++ ys
 drop-append [] ys h = absurd (omega arith)
 drop-append (x ∷ xs) ys h = refl
-
--- the last one of a list, counted after one more in front
-before-last : (x : ℕ) (xs : List ℕ) → 0 < length xs → getD (x ∷ xs) (length xs) 0 ≡ lastOf xs
-before-last x xs h = let e : length (x ∷ xs) - 1 ≡ length xs = omega arith in rw e at (last-cons x xs h)
 
 module _ (z : Shape) (img : List ℕ) (s : ℕ) (hs : s < z .settings .segments) (fits : ChainsFit z img) (ne : freeHead z img ≢ 0)
     (img′ : List ℕ) (j : Joins z img img′ s (freeHead z img) (lastTier z img s) (length (chain z img s))) where
@@ -65,7 +60,7 @@ module _ (z : Shape) (img : List ℕ) (s : ℕ) (hs : s < z .settings .segments)
   stood q i hq h =
       let u : ℕ = getD (chain z img q) i 0 in
       let m : List·Memᴰ u (chain z img q) = member (chain z img q) i h in
-      stands-same q i u (getD (0 ∷ chain z img q) i 0) (chain-in-tiers z img fits q u hq m) (not-new z img s hs fits ne q u hq m)
+      stands-same q i u (getD (0 ∷ chain z img q) i 0) (chain-tiers z img fits q hq u m) (not-new z img s hs fits ne q u hq m)
       (fits .segmentsFit q hq .standing i h)
 
   stands-new : Below (length (chain z img s ++ (freeHead z img ∷ [])))
@@ -78,7 +73,7 @@ module _ (z : Shape) (img : List ℕ) (s : ℕ) (hs : s < z .settings .segments)
       ⊎-elim
       (λ (e : i ≡ length c).
       let a : getD (c ++ (t ∷ [])) i 0 ≡ t = rw e (getD-append-seam c t [] 0) in
-      let d : getD (0 ∷ (c ++ (t ∷ []))) i 0 ≡ lastTier z img s = b ∙ rw e (before-last 0 c (chain-some z img s hs)) in
+      let d : getD (0 ∷ (c ++ (t ∷ []))) i 0 ≡ lastTier z img s = b ∙ rw e (last-after 0 c (chain-some z img s hs)) in
       subst₂ (StandsAt z img′ s i) (sym a) (sym d) (record { segmentIs = j .segmentNew; orderIs = j .orderNew ∙ sym e; previousIs = j .previousNew }))
       (λ (e : i ≢ length c).
       let k : i < length c = omega arith in

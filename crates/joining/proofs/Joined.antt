@@ -18,7 +18,7 @@ use Rattle.search.specs.Rules.{keyAt, KeysOnce, EntriesFit}
 use Rattle.chunks.specs.Chunks.{MarksFit, CountersFit, FreeTierFits}
 use Rattle.upkeep.specs.Sound.{Pair, pairsOf, SoundBut}
 use Rattle.joining.specs.Joining.{lastTier, join}
-use Rattle.upkeep.proofs.Chained.{chain-in-tiers}
+use Rattle.chains.proofs.Tiers.{chain-tiers}
 use Rattle.upkeep.proofs.AgreeTier.{same-tier-fits, same-marks, same-counters, same-free}
 use Rattle.upkeep.proofs.Sound.{sound-image}
 use Rattle.joining.proofs.Ends.{join-joins}
@@ -59,7 +59,7 @@ module _ (z : Shape) (img : List ℕ) (s : ℕ) (hs : s < z .settings .segments)
         ⊎-elim
         (λ k.
         same-counters z img img′ u (old-tier z img s hs sound ne img′ j q hq u k)
-        (j .counts u (chain-in-tiers z img (sound .fits .chains) q u hq k))
+        (j .counts u (chain-tiers z img (sound .fits .chains) q hq u k))
         (sound .fits .chunks .counters q hq u k (λ w. out (List·Memᴰ·tail w))))
         (λ e. absurd (out (List·Memᴰ·head e)))
         (in-chain z img s hs sound ne img′ j q hq u m)

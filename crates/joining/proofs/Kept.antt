@@ -4,14 +4,13 @@ use mathlib.Core.List.{List, [], _∷_}
 use mathlib.Core.Path.{_≡_, sym}
 use mathlib.Core.Logic.{⊎-elim, _≢_}
 use native.Mathlib.Omega.{arith}
-use lib.Dec.{lit<}
 use Rattle.lists.specs.Quantify.{every-cons, every-none}
 use Rattle.layout.specs.declared.Shape.{Shape}
 use Rattle.layout.specs.Tiers.{IsTier}
-use Rattle.layout.specs.Places.{Header, Counter, nextTier, next, previous, segment, order, Global, bulkCount, firstFree, usedTiers, headersOffset, storeSize}
+use Rattle.layout.specs.Places.{Header, Counter, nextTier, next, previous, segment, order, Global, firstFree, usedTiers}
 use Rattle.layout.specs.Places.{globalNo, headerNo, counterNo, Place, global, tier, slot, counter, free, byte, In, get, sharedPlace, nextPlace, Write, _≔_, puts}
 use Rattle.layout.specs.Frame.{Image}
-use Rattle.layout.proofs.Places.{get-puts-other, length-puts, kind, by-kind, shared-in, shared-kind, shared-never, shared-tiers}
+use Rattle.layout.proofs.Places.{global-lt, get-puts-other, length-puts, kind, by-kind, shared-in, shared-kind, shared-never, shared-tiers}
 use Rattle.layout.proofs.Marks.{mark-get}
 use Rattle.layout.proofs.Chunks.{cut-chunks}
 use Rattle.upkeep.proofs.AgreeTier.{SameTier}
@@ -27,13 +26,6 @@ joinWrites z s t l a b n =
     ∷ tier t (counter segment) ≔ s
     ∷ tier t (counter order) ≔ n
     ∷ []
-
-global-lt : (f : Global) → globalNo f < 5
-global-lt bulkCount = lit< tt
-global-lt firstFree = lit< tt
-global-lt usedTiers = lit< tt
-global-lt headersOffset = lit< tt
-global-lt storeSize = lit< tt
 
 module _ {z : Shape} {img : List ℕ} (im : Image z img) (s t l a b n : ℕ) (it : IsTier z t) (il : IsTier z l) where
   abbrev after : List ℕ

@@ -1,8 +1,6 @@
 pub mod Kept
 pub mod Writes
-pub mod Following
 pub mod Ends
-pub mod Adding
 pub mod Chains
 pub mod Fitting
 pub mod Tiers

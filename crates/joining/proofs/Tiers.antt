@@ -12,17 +12,18 @@ use Rattle.lists.proofs.Lists.{total-append}
 use Rattle.layout.specs.declared.Shape.{Shape}
 use Rattle.layout.specs.Places.{mark}
 use Rattle.chains.specs.Chains.{chain, chained, freeHead}
-use Rattle.probe.specs.Table.{total as Table·total}
+use Rattle.probe.specs.Table.{slotTotal}
 use Rattle.entries.specs.Live.{slotAt, fullSlots, liveIn}
 use Rattle.search.specs.Search.{slotsOf}
-use Rattle.search.specs.Rules.{keyAt, TierFits}
+use Rattle.search.specs.Rules.{keyAt, TierSlotsFit}
 use Rattle.chunks.specs.Chunks.{covers, FreeTierFits}
 use Rattle.upkeep.specs.Sound.{Pair, pairsOf, SoundBut}
 use Rattle.joining.specs.Joining.{lastTier}
 use Rattle.upkeep.proofs.Values.{ifFull, weigh}
 use Rattle.lists.proofs.Totals.{total-same}
 use Rattle.upkeep.proofs.Sums.{full-total, pairs-total}
-use Rattle.upkeep.proofs.Chained.{chained-in, chain-in-tiers}
+use Rattle.chains.proofs.Chained.{chained-in}
+use Rattle.chains.proofs.Tiers.{chain-tiers}
 use Rattle.upkeep.proofs.AgreeTier.{SameTier, Moved, entry-moves, same-weigh}
 use Rattle.joining.proofs.Ends.{new-in, new-tier}
 use Rattle.joining.proofs.Chains.{other-chain, longer-chain}
@@ -31,8 +32,8 @@ use Rattle.joining.proofs.Writes.{Joins}
 
 -- a sum over empty slots
 table-empty : (z : Shape) (img : List ℕ) (t : ℕ) (f : ℕ → ℕ) → Below (z .settings .slots) (λ k. slotAt z img t k ≡ 0) → (n : ℕ) → n ≤ z .settings .slots
-    → Table·total (slotsOf z t) (ifFull f) img n ≡ 0
-unfolding Table·total ifFull
+    → slotTotal (slotsOf z t) (ifFull f) img n ≡ 0
+unfolding slotTotal ifFull
 table-empty z img t f e zero h = refl
 table-empty z img t f e (suc n) h =
     let q : ifFull f (slotAt z img t n) ≡ 0 = ap (ifFull f) (e n (omega arith)) in
@@ -69,7 +70,7 @@ module _ (z : Shape) (img : List ℕ) (s : ℕ) (hs : s < z .settings .segments)
   unfolding liveIn those
   new-live q i = rw (no-members (fullSlots z img′ (freeHead z img)) new-none)
 
-  pub new-fits : (q : ℕ) → TierFits z img′ q (freeHead z img)
+  pub new-fits : (q : ℕ) → TierSlotsFit z img′ q (freeHead z img)
   new-fits q =
       record {
         slotsFit =
@@ -92,7 +93,7 @@ module _ (z : Shape) (img : List ℕ) (s : ℕ) (hs : s < z .settings .segments)
       (same-or q s)
 
   pub old-tier : (q : ℕ) → q < z .settings .segments → (u : ℕ) → List·Memᴰ u (chain z img q) → SameTier z img img′ u
-  old-tier q hq u m = j .sameTiers u (chain-in-tiers z img (sound .fits .chains) q u hq m)
+  old-tier q hq u m = j .sameTiers u (chain-tiers z img (sound .fits .chains) q hq u m)
 
   -- a full slot is one of before, with the key of before
   pub record Before (q u k : ℕ) : Type 0 where

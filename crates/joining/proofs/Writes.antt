@@ -8,8 +8,7 @@ use lib.ListN.{length}
 use Rattle.lists.specs.Quantify.{Every, every-cons, every-none}
 use Rattle.layout.specs.declared.Shape.{Shape}
 use Rattle.layout.specs.Tiers.{IsTier}
-use Rattle.layout.specs.Places.{Counter, entryCount, lowestFree, nextTier, next, previous, low, segment, order, count, Global, firstFree, usedTiers}
-use Rattle.layout.specs.Places.{globalNo, counterNo, Place, global, tier, counter, wide, partWide, In, get, nextPlace, Write, _≔_, puts}
+use Rattle.layout.specs.Places.{Counter, entryCount, lowestFree, nextTier, next, previous, low, segment, order, count, Global, firstFree, usedTiers, globalNo, counterNo, Place, global, tier, counter, wide, partWide, In, get, nextPlace, Write, _≔_, puts}
 use Rattle.layout.specs.Frame.{Image}
 use Rattle.layout.proofs.Places.{written, get-same, get-puts-other, puts-append, image-puts, length-puts, kind, by-kind, shared-in, shared-kind, shared-never, shared-tiers, shared-wide}
 use Rattle.chains.specs.Chains.{nextOf, freeHead}

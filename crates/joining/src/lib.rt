@@ -1,14 +1,7 @@
 // A free tier joins a chain.
 use layout::Shape;
 ghost use mathlib.Core.Path.{_≡_};
-ghost use Prim.Native.Nat.{_<_};
-ghost use lib.ListN.{length};
-ghost use Rattle.lists.specs.Quantify.{Every};
-ghost use Rattle.layout.specs.Tiers.{IsTier};
-ghost use Rattle.layout.specs.Places.{get, global, usedTiers};
-ghost use Rattle.layout.specs.Frame.{Framed};
-ghost use Rattle.chains.specs.Chains.{chain, freeHead};
-ghost use Rattle.joining.specs.Joining.{lastTier, join as Joining·join};
+ghost use Rattle.joining.specs.Joining.{join as Joining·join, EndsAt, CanFollow, CanJoin};
 
 // The last tier of a chain, and how many tiers it has.
 pub struct End {
@@ -18,8 +11,8 @@ pub struct End {
 
 // The end of segment s's chain.
 fn end_of_chain(z: Shape, img: &[u8], s: usize) -> End
-    requires { ⌜ Framed z (length (now img)) × (s < z .settings .segments) × Every (chain z (now img) s) (IsTier z) ⌝ }
-    ensures { λ r. ⌜ (r .last ≡ lastTier z (now (img .entry)) s) × (r .length ≡ length (chain z (now (img .entry)) s)) ⌝ }
+    requires { ⌜ CanFollow z (now img) s ⌝ }
+    ensures { λ r. ⌜ EndsAt z (now (img .entry)) s (r .last) (r .length) ⌝ }
 {
     let most = layout::tier_count(z);
     let mut last = 0;
@@ -44,7 +37,7 @@ fn end_of_chain(z: Shape, img: &[u8], s: usize) -> End
 
 // The first free tier joins segment s's chain. All is read before the first write.
 pub fn join(z: Shape, img: &mut [u8], s: usize)
-    requires { ⌜ Framed z (length (now img)) × (s < z .settings .segments) × Every (chain z (now img) s) (IsTier z) × IsTier z (freeHead z (now img)) × (get z (now img) (global usedTiers) < 1024) ⌝ }
+    requires { ⌜ CanJoin z (now img) s ⌝ }
     ensures { λ r. ⌜ now (img .exit) ≡ Joining·join z (now (img .entry)) s ⌝ }
 {
     let free = layout::read::first_free(z, img);

@@ -15,7 +15,8 @@ use Rattle.layout.specs.Places.{Global, bulkCount, firstFree, usedTiers,
 use Rattle.layout.specs.Places.{Counter, next, previous, low, segment, order, count, Part, slot, counter, free, byte, Place, global, header, tier}
 use Rattle.layout.specs.Places.{fieldAt, globalNo, globalWidths, headerNo, headerWidths, counterNo, counterWidths, partAt, partWide, PartIn, at, wide, In}
 use Rattle.layout.specs.Frame.{Framed}
-use Rattle.layout.proofs.Tiers.{row-before, rows-apart, mains-after, mains-end, tier-start, tier-before, tier-end}
+use Rattle.lists.proofs.Numbers.{mul-add-le}
+use Rattle.layout.proofs.Tiers.{rows-apart, mains-after, mains-end, tier-start, tier-before, tier-end}
 
 -- ---- fields that follow one another without gaps
 
@@ -93,7 +94,7 @@ module _ {z : Shape} {len : ℕ} (fr : Framed z len) where
   -- ---- within a tier
 
   slot-within : (j : ℕ) → j < slots → j * slotSize + slotSize ≤ lookupSize
-  slot-within j h = omega (arith, row-before slotSize j slots h, fr .valid .lookupSize .0)
+  slot-within j h = omega (arith, mul-add-le slotSize j slots h, fr .valid .lookupSize .0)
 
   pub part-within : (p : Part) → PartIn z p → partAt z p + partWide z p ≤ tierSize
   unfolding partAt partWide
@@ -129,7 +130,7 @@ module _ {z : Shape} {len : ℕ} (fr : Framed z len) where
 
   headers-end : (s : ℕ) (f : Header) → s < segments → at z (header s f) + wide z (header s f) ≤ mains z
   unfolding at wide mains
-  headers-end s f h = omega (arith, header-within f, row-before headerSize s segments h, fr .valid .headerSize .0)
+  headers-end s f h = omega (arith, header-within f, mul-add-le headerSize s segments h, fr .valid .headerSize .0)
 
   headers-apart : (s u : ℕ) (f g : Header) → header s f ≢ header u g
       → Apart (at z (header s f)) (wide z (header s f)) (at z (header u g)) (wide z (header u g))

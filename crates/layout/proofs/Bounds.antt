@@ -4,16 +4,14 @@ use mathlib.Core.Path.{_≡_}
 use mathlib.Core.Logic.{_⊎_, ⊎-elim}
 use native.Mathlib.Omega.{arith}
 use native.Mathlib.Nat.{le-refl}
+use Rattle.lists.proofs.Numbers.{mul-add-le}
 use Rattle.settings.specs.declared.Settings.{Settings}
 use Rattle.settings.specs.Rules.{largest}
 use Rattle.settings.proofs.Laws.{product-le}
 use Rattle.layout.specs.declared.Shape.{Shape}
 use Rattle.layout.specs.Tiers.{tiers, mains, bulksAt, storeEnd, extraAt, tierAt, IsTier}
-use Rattle.layout.specs.Places.{slot, Place, tier, partWide, at, wide, In, countersAt}
 use Rattle.layout.specs.Frame.{Bounded, Framed}
-use Rattle.layout.proofs.Tiers.{row-before, mains-after, mains-end, extra-end, tier-end}
-use Rattle.layout.proofs.Apart.{inside}
-use Rattle.layout.proofs.Places.{slot-at}
+use Rattle.layout.proofs.Tiers.{mains-after, mains-end, extra-end, tier-end}
 
 pub record Products (z : Shape) : Type 0 where
   pub headers : z .settings .segments * z .settings .headerSize ≤ 65536
@@ -65,7 +63,7 @@ module _ {z : Shape} {len : ℕ} (fr : Framed z len) where
 
   pub header-room : (s : ℕ) → s < segments → headers + s * headerSize + 32 ≤ largest
   unfolding mains
-  header-room s h = omega (arith, row-before headerSize s segments h, fr .valid .headerSize .0, mains-end z, fr .within, fr .small)
+  header-room s h = omega (arith, mul-add-le headerSize s segments h, fr .valid .headerSize .0, mains-end z, fr .within, fr .small)
 
   pub extra-room : (e : ℕ) → e < bulks * bulkTiers → extraAt z e ≤ largest
   unfolding storeEnd
@@ -73,26 +71,6 @@ module _ {z : Shape} {len : ℕ} (fr : Framed z len) where
 
   pub tier-room : (t : ℕ) → IsTier z t → tierAt z t + lookupSize + 64 + freeListSize + innerOffset + chunks * chunkSize ≤ largest
   tier-room t h = omega (arith, tier-end fr t h, fr .valid .tierSize .0, fr .within, fr .small)
-
-  -- within the image: the global state, a tier's counters, a slot, each place
-
-  pub global-room : z .settings .globalAt + 33 ≤ len
-  global-room = omega (arith, fr .headersAfter, mains-after z, mains-end z, fr .within)
-
-  pub counters-room : (t : ℕ) → IsTier z t → countersAt z t + 64 ≤ len
-  unfolding countersAt
-  counters-room t h = omega (arith, tier-end fr t h, fr .valid .tierSize .0, fr .within)
-
-  pub place-room : (p : Place) → In z p → at z p + wide z p ≤ len
-  place-room p h = omega (arith, inside fr p h, fr .within)
-
-  pub slot-room : (t j : ℕ) → IsTier z t → j < z .settings .slots → tierAt z t + j * z .settings .slotSize + z .settings .slotSize ≤ len
-  unfolding wide partWide
-  slot-room t j h k = omega (arith, place-room (tier t (slot j)) (h, k), slot-at z t j)
-
-  -- the same, where the code has its offset and its width
-  pub place-fits : (p : Place) → In z p → {a n : ℕ} → a ≡ at z p → n ≡ wide z p → a + n ≤ len
-  place-fits p h e f = rw (e, f) (place-room p h)
 
 -- a slot size that is not 4
 pub slot-eight : {n : ℕ} → (n ≡ 4) ⊎ (n ≡ 8) → (n ≡ 4 → ⊥) → n ≡ 8

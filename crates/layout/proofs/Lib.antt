@@ -5,3 +5,4 @@ pub mod Marks
 pub mod Chunks
 pub mod Frames
 pub mod Bounds
+pub mod PlaceBytes

@@ -9,7 +9,7 @@ use Rattle.lists.specs.Cases.{lt-or}
 use Rattle.words.specs.Bytes.{Apart}
 use Rattle.words.specs.Bits.{bitOf, bit}
 use Rattle.words.proofs.Numbers.{le-ext, le-one}
-use Rattle.words.proofs.Bits.{bit-lt, length-putBits, bytes-putBits, getD-putBits-out, bit-putBits-out, bit-putBits-in}
+use Rattle.words.proofs.Bits.{bitOf-lt, length-putBits, bytes-putBits, getD-putBits-out, bit-putBits-out, bit-putBits-in}
 use Rattle.settings.specs.declared.Settings.{Settings}
 use Rattle.layout.specs.declared.Shape.{Shape}
 use Rattle.layout.specs.Tiers.{storeEnd, IsTier}
@@ -35,7 +35,7 @@ mark-get z img t i = rw (free-at z t (i / 8), le-one)
 
 pub mark-lt : (z : Shape) (img : List ℕ) (t i : ℕ) → mark z img t i < 2
 unfolding mark bit
-mark-lt z img t i = bit-lt (getD img (freeListAt z t + i / 8) 0) (i % 8)
+mark-lt z img t i = bitOf-lt (getD img (freeListAt z t + i / 8) 0) (i % 8)
 
 -- ---- what is kept as it was
 

@@ -13,7 +13,7 @@ use Rattle.words.specs.Numbers.{le, putLe}
 use Rattle.words.proofs.Numbers.{length-putLe, bytes-putLe, le-lt, le-putLe-same, le-putLe-out}
 use Rattle.layout.specs.declared.Shape.{Shape}
 use Rattle.layout.specs.Tiers.{tierAt, IsTier}
-use Rattle.layout.specs.Places.{Global, Header, entryCount, lowestFree, nextTier, Counter, next, previous, low, segment, order, count, slot, counter, free, byte, Place, global, header, tier}
+use Rattle.layout.specs.Places.{Global, bulkCount, firstFree, usedTiers, headersOffset, storeSize, Header, entryCount, lowestFree, nextTier, Counter, next, previous, low, segment, order, count, slot, counter, free, byte, Place, global, header, tier}
 use Rattle.layout.specs.Places.{fieldAt, globalNo, globalWidths, headerNo, headerWidths, counterNo, counterWidths, partAt}
 use Rattle.layout.specs.Places.{partWide, at, wide, In, get, put, countersAt, sharedPlace, sharedAt, Write, _≔_, puts}
 use Rattle.layout.specs.Frame.{Framed, Image}
@@ -46,16 +46,6 @@ module _ (z : Shape) where
   pub put-at : (img : List ℕ) (p : Place) (v : ℕ) {a n : ℕ} → a ≡ at z p → n ≡ wide z p → putLe img a n v ≡ put z img p v
   unfolding put
   put-at img p v e f = rw (e, f)
-
-pub counter-get : (z : Shape) (img : List ℕ) (t : ℕ) (f : Counter) {a : ℕ} → a ≡ countersAt z t
-    → le img (a + fieldAt counterWidths (counterNo f)) (getD counterWidths (counterNo f) 0) ≡ get z img (tier t (counter f))
-unfolding wide partWide
-counter-get z img t f e = get-at z img (tier t (counter f)) (rw e (sym (counter-at z t f))) refl
-
-pub counter-put : (z : Shape) (img : List ℕ) (t : ℕ) (f : Counter) (v : ℕ) {a : ℕ} → a ≡ countersAt z t
-    → putLe img (a + fieldAt counterWidths (counterNo f)) (getD counterWidths (counterNo f) 0) v ≡ put z img (tier t (counter f)) v
-unfolding wide partWide
-counter-put z img t f v e = put-at z img (tier t (counter f)) v (rw e (sym (counter-at z t f))) refl
 
 -- ---- one place
 
@@ -124,6 +114,13 @@ kind (tier t (byte i)) = 16
 
 pub by-kind : {p q : Place} → kind p ≢ kind q → p ≢ q
 by-kind ne e = ne (ap kind e)
+
+pub global-lt : (f : Global) → globalNo f < 5
+global-lt bulkCount = lit< tt
+global-lt firstFree = lit< tt
+global-lt usedTiers = lit< tt
+global-lt headersOffset = lit< tt
+global-lt storeSize = lit< tt
 
 header-lt : (f : Header) → headerNo f < 3
 header-lt entryCount = lit< tt

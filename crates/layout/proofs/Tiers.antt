@@ -7,17 +7,15 @@ use native.Mathlib.Nat.{mul-le-mul-right, div-add-mod', mod-lt}
 use borrow.Author.Tests.{le-leb, lt-leb}
 use Rattle.words.specs.Bytes.{Apart}
 use Rattle.lists.specs.Cases.{lt-or}
+use Rattle.lists.proofs.Numbers.{mul-add-le}
 use Rattle.settings.specs.declared.Settings.{Settings}
 use Rattle.layout.specs.declared.Shape.{Shape}
 use Rattle.layout.specs.Tiers.{tiers, mains, bulksAt, storeEnd, extraAt, tierAt, IsTier}
 use Rattle.layout.specs.Frame.{Framed}
 
--- rows that are w wide: row i is before row j
-pub row-before : (w i j : ℕ) → i < j → i * w + w ≤ j * w
-row-before w i j h = omega (arith, mul-le-mul-right w h)
-
+-- rows that are w wide
 pub rows-apart : (w i j : ℕ) → i ≢ j → Apart (i * w) w (j * w) w
-rows-apart w i j ne = ⊎-elim (λ h. inl (row-before w i j h)) (λ (h : j ≤ i). inr (row-before w j i (omega arith))) (lt-or i j)
+rows-apart w i j ne = ⊎-elim (λ h. inl (mul-add-le w i j h)) (λ (h : j ≤ i). inr (mul-add-le w j i (omega arith))) (lt-or i j)
 
 module _ (z : Shape) where
   open Shape z using (settings, headers, bulks)
@@ -55,22 +53,22 @@ module _ {z : Shape} {len : ℕ} (fr : Framed z len) where
   -- a tier ends within its bulk
   extra-within : (e : ℕ) → extraAt z e + tierSize ≤ e / bulkTiers * bulkSize + bulkSize
   unfolding extraAt
-  extra-within e = omega (arith, row-before tierSize (e % bulkTiers) bulkTiers (mod-lt e (fr .valid .bulkTiers .0)), fr .valid .bulkSize .0)
+  extra-within e = omega (arith, mul-add-le tierSize (e % bulkTiers) bulkTiers (mod-lt e (fr .valid .bulkTiers .0)), fr .valid .bulkSize .0)
 
   pub extra-before : (e f : ℕ) → e < f → extraAt z e + tierSize ≤ extraAt z f
   unfolding extraAt
   extra-before e f h =
       ⊎-elim
-      (λ (l : q < q′). omega (arith, extra-within e, row-before bulkSize q q′ l))
+      (λ (l : q < q′). omega (arith, extra-within e, mul-add-le bulkSize q q′ l))
       (λ (k : q′ ≤ q).
       ⊎-elim
-      (λ (l : q′ < q). omega (arith, at-e, at-f, row-before bulkTiers q′ q l))
+      (λ (l : q′ < q). omega (arith, at-e, at-f, mul-add-le bulkTiers q′ q l))
       (λ (l : q ≤ q′).
       let same : q ≡ q′ = omega arith in
       omega (
         arith,
         ap (λ (x : ℕ). x * bulkSize) same,
-        row-before tierSize (e % bulkTiers) (f % bulkTiers) (omega (arith, at-e, at-f, ap (λ (x : ℕ). x * bulkTiers) same)),
+        mul-add-le tierSize (e % bulkTiers) (f % bulkTiers) (omega (arith, at-e, at-f, ap (λ (x : ℕ). x * bulkTiers) same)),
       ))
       (lt-or q′ q))
       (lt-or q q′)
@@ -90,7 +88,7 @@ module _ {z : Shape} {len : ℕ} (fr : Framed z len) where
   pub extra-end : (e : ℕ) → e < bulks * bulkTiers → extraAt z e + tierSize ≤ bulks * bulkSize
   extra-end e h =
       ⊎-elim
-      (λ l. omega (arith, extra-within e, row-before bulkSize (e / bulkTiers) bulks l))
+      (λ l. omega (arith, extra-within e, mul-add-le bulkSize (e / bulkTiers) bulks l))
       (λ l. absurd (omega (arith, div-add-mod' e bulkTiers, mul-le-mul-right bulkTiers l)))
       (lt-or (e / bulkTiers) bulks)
 
@@ -100,8 +98,8 @@ module _ {z : Shape} {len : ℕ} (fr : Framed z len) where
       ⊎-elim
       (λ a.
       ⊎-elim
-      (λ b. omega (arith, row-before tierSize (t - 1) (u - 1) (omega arith)))
-      (λ b. omega (arith, row-before tierSize (t - 1) segments (omega arith)))
+      (λ b. omega (arith, mul-add-le tierSize (t - 1) (u - 1) (omega arith)))
+      (λ b. omega (arith, mul-add-le tierSize (t - 1) segments (omega arith)))
       (tier-is z u))
       (λ a.
       ⊎-elim
@@ -114,6 +112,6 @@ module _ {z : Shape} {len : ℕ} (fr : Framed z len) where
   unfolding tiers storeEnd bulksAt
   tier-end t h =
       ⊎-elim
-      (λ a. omega (arith, row-before tierSize (t - 1) segments (omega arith)))
+      (λ a. omega (arith, mul-add-le tierSize (t - 1) segments (omega arith)))
       (λ a. omega (arith, extra-end (t - 1 - segments) (omega arith)))
       (tier-is z t)

@@ -13,7 +13,7 @@ use Rattle.settings.specs.Decide.{between?}
 use Rattle.layout.specs.declared.Shape.{Shape}
 use Rattle.layout.specs.declared.Frame.{Frame}
 use Rattle.layout.specs.declared.Frame.the-variants.{Fits, Broken}
-use Rattle.layout.specs.Tiers.{tiers, storeEnd}
+use Rattle.layout.specs.Tiers.{tiers, storeEnd, IsTier}
 use Rattle.layout.specs.Places.{get, global, storeSize}
 
 -- the headers offset and the bulk count as the global state has them
@@ -65,3 +65,22 @@ pub record Framed (z : Shape) (len : ℕ) : Type 0 where
 pub record Image (z : Shape) (img : List ℕ) : Type 0 where
   pub bytes : Bytes img
   pub framed : Framed z (length img)
+
+-- slot j of tier t of an image of this length
+pub record HasSlot (z : Shape) (len t j : ℕ) : Type 0 where
+  pub framed : Framed z len
+  pub tier : IsTier z t
+  pub slot : j < z .settings .slots
+
+-- the n chunks from c on
+pub record HasChunks (z : Shape) (len t c n : ℕ) : Type 0 where
+  pub framed : Framed z len
+  pub tier : IsTier z t
+  pub within : c + n ≤ z .settings .chunks
+
+-- tier t, and two offsets of one number: in a segment header and in a tier's counters
+pub record HasShared (z : Shape) (t inHeader inCounters : ℕ) : Type 0 where
+  pub framed : Framed z largest
+  pub tier : IsTier z t
+  pub header : inHeader ≤ 32
+  pub counters : inCounters ≤ 64

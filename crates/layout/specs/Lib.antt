@@ -1,3 +1,4 @@
 pub mod Tiers
 pub mod Places
 pub mod Frame
+pub mod FramedTier

@@ -11,7 +11,7 @@ ghost use Rattle.lists.specs.Decide.{Decides};
 ghost use Rattle.settings.specs.Rules.{Valid, Between, largest};
 ghost use Rattle.layout.specs.Tiers.{tiers, mains as Tiers·mains, bulksAt, storeEnd, extraAt, tierAt, IsTier};
 ghost use Rattle.layout.specs.Places.{countersAt, sharedAt, countersOf, freeListAt, chunkAt};
-ghost use Rattle.layout.specs.Frame.{shapeOf, Bounded, FrameFits, frameOf, Framed};
+ghost use Rattle.layout.specs.Frame.{shapeOf, Bounded, FrameFits, frameOf, Framed, HasChunks, HasShared};
 
 // The settings, with the two numbers of the global state that say where things stand: the headers offset and the bulk count.
 pub struct Shape {
@@ -198,9 +198,9 @@ pub fn free_list_at(z: Shape, t: usize) -> usize
     counters_at(z, t) + 64
 }
 
-// Where chunk c starts, or where the chunks end.
+// Where chunk c starts, or where the chunks end: a run of no chunks is enough.
 pub fn chunk_at(z: Shape, t: usize, c: usize) -> usize
-    requires { ⌜ Framed z largest × IsTier z t × (c ≤ z .settings .chunks) ⌝ }
+    requires { ⌜ HasChunks z largest t c 0 ⌝ }
     ensures { λ r. ⌜ r ≡ chunkAt z t c ⌝ }
 {
     free_list_at(z, t) + z.settings.freeListSize + z.settings.innerOffset + c * z.settings.chunkSize
@@ -208,7 +208,7 @@ pub fn chunk_at(z: Shape, t: usize, c: usize) -> usize
 
 // Where a number stands that a main tier has in its segment header and any other tier in its counters.
 fn shared_at(z: Shape, t: usize, in_header: usize, in_counters: usize) -> usize
-    requires { ⌜ Framed z largest × IsTier z t × (in_header ≤ 32) × (in_counters ≤ 64) ⌝ }
+    requires { ⌜ HasShared z t in_header in_counters ⌝ }
     ensures { λ r. ⌜ r ≡ sharedAt z t in_header in_counters ⌝ }
 {
     if z.settings.segments < t {

@@ -6,7 +6,7 @@ ghost use Prim.Native.Nat.{_<_};
 ghost use lib.ListN.{length};
 ghost use Rattle.layout.specs.Tiers.{IsTier};
 ghost use Rattle.layout.specs.Places.{get, global, firstFree, usedTiers, tier, slot as Places·slot, nextPlace, lowPlace, countPlace, mark as Places·mark};
-ghost use Rattle.layout.specs.Frame.{Framed};
+ghost use Rattle.layout.specs.Frame.{Framed, HasSlot, HasChunks};
 
 pub fn first_free(z: Shape, img: &[u8]) -> u64
     requires { ⌜ Framed z (length (now img)) ⌝ }
@@ -56,7 +56,7 @@ pub fn count_of(z: Shape, img: &[u8], t: usize) -> u64
 }
 
 pub fn slot(z: Shape, img: &[u8], t: usize, j: usize) -> u64
-    requires { ⌜ Framed z (length (now img)) × IsTier z t × (j < z .settings .slots) ⌝ }
+    requires { ⌜ HasSlot z (length (now img)) t j ⌝ }
     ensures { λ r. ⌜ r ≡ get z (now (img .entry)) (tier t (Places·slot j)) ⌝ }
 {
     let at = super::tier_at(z, t) + j * z.settings.slotSize;
@@ -69,7 +69,7 @@ pub fn slot(z: Shape, img: &[u8], t: usize, j: usize) -> u64
 
 // The bit of chunk i.
 pub fn mark(z: Shape, img: &[u8], t: usize, i: usize) -> u8
-    requires { ⌜ Framed z (length (now img)) × IsTier z t × (i < z .settings .chunks) ⌝ }
+    requires { ⌜ HasChunks z (length (now img)) t i 1 ⌝ }
     ensures { λ r. ⌜ (r ≡ Places·mark z (now (img .entry)) t i) × (r < 2) ⌝ }
 {
     words::bit(img, super::free_list_at(z, t), i)

@@ -2,11 +2,11 @@
 use super::Counters;
 use super::Shape;
 ghost use mathlib.Core.Path.{_≡_};
-ghost use Prim.Native.Nat.{_+_, _<_, _≤_};
+ghost use Prim.Native.Nat.{_<_};
 ghost use lib.ListN.{length};
 ghost use Rattle.layout.specs.Tiers.{IsTier};
 ghost use Rattle.layout.specs.Places.{put, global, firstFree, usedTiers, tier, slot, counter, previous, segment, order, nextPlace, lowPlace, countPlace, putMarks};
-ghost use Rattle.layout.specs.Frame.{Framed};
+ghost use Rattle.layout.specs.Frame.{Framed, HasSlot, HasChunks};
 
 pub fn put_first_free(z: Shape, img: &mut [u8], v: u64)
     requires { ⌜ Framed z (length (now img)) ⌝ }
@@ -76,7 +76,7 @@ pub fn put_order(z: Shape, img: &mut [u8], t: usize, v: u64)
 }
 
 pub fn put_slot(z: Shape, img: &mut [u8], t: usize, j: usize, v: u64)
-    requires { ⌜ Framed z (length (now img)) × IsTier z t × (j < z .settings .slots) ⌝ }
+    requires { ⌜ HasSlot z (length (now img)) t j ⌝ }
     ensures { λ r. ⌜ now (img .exit) ≡ put z (now (img .entry)) (tier t (slot j)) v ⌝ }
 {
     let wide = z.settings.slotSize;
@@ -84,18 +84,10 @@ pub fn put_slot(z: Shape, img: &mut [u8], t: usize, j: usize, v: u64)
     words::write_le(img, at, wide, v);
 }
 
-// Marks the n chunks from c on.
-pub fn set_marks(z: Shape, img: &mut [u8], t: usize, c: usize, n: usize)
-    requires { ⌜ Framed z (length (now img)) × IsTier z t × (c + n ≤ z .settings .chunks) ⌝ }
-    ensures { λ r. ⌜ now (img .exit) ≡ putMarks z (now (img .entry)) t c n 1 ⌝ }
+// Makes the marks of the n chunks from c on b: 1 marked, 0 clear.
+pub fn put_marks(z: Shape, img: &mut [u8], t: usize, c: usize, n: usize, b: u8)
+    requires { ⌜ HasChunks z (length (now img)) t c n × (b < 2) ⌝ }
+    ensures { λ r. ⌜ now (img .exit) ≡ putMarks z (now (img .entry)) t c n b ⌝ }
 {
-    words::set_bits(img, super::free_list_at(z, t), c, n);
-}
-
-// Clears the n chunks from c on.
-pub fn clear_marks(z: Shape, img: &mut [u8], t: usize, c: usize, n: usize)
-    requires { ⌜ Framed z (length (now img)) × IsTier z t × (c + n ≤ z .settings .chunks) ⌝ }
-    ensures { λ r. ⌜ now (img .exit) ≡ putMarks z (now (img .entry)) t c n 0 ⌝ }
-{
-    words::clear_bits(img, super::free_list_at(z, t), c, n);
+    words::put_bits(img, super::free_list_at(z, t), c, n, b);
 }

@@ -9,13 +9,14 @@ use native.Mathlib.Nat.{add-zero}
 use native.Mathlib.Numerals.{add-one}
 use borrow.Author.Tests.{lt-ltb, le-ltb, le-leb, lt-leb, leb-true}
 use lib.Dec.{leb, ltb}
-use lib.ListN.{length, getD, take, drop, drop-of-length-le, length-take, length-drop}
+use lib.ListN.{length, getD, take, drop, drop-of-length-le}
 use lib.Seq.{drop-cons, sets}
 use Rattle.words.specs.Bytes.{cut, same}
 use Rattle.lists.specs.Cases.{lt-or, by-test}
+use Rattle.words.proofs.Cuts.{cut-room}
 use Rattle.words.proofs.Bytes.{same-eq, same-true, same-false, cut-sets-same, getD-cut}
 use Rattle.leb128.specs.declared.Decoded.the-variants.{Number, Refused}
-use Rattle.leb128.specs.Leb128.{encode, front, value, largest, accept, decode, Stands}
+use Rattle.leb128.specs.Leb128.{encode, front, value, largestLength, accept, decode, EncodedAt}
 use Rattle.leb128.proofs.Encode.{encode-1, encode-2, encode-3}
 
 -- ---- the bytes at the front
@@ -36,49 +37,49 @@ front-more n l at h b = rw (add-one, drop-cons l at 0 h, front, le-ltb _ 128 b)
 -- ---- when bytes are accepted
 
 module _ (bs : List ℕ) (at : ℕ) where
-  accepted : (n : ℕ) → value bs ≡ n → bs ≡ encode n → n ≤ largest → accept bs at ≡ Number n (at + length bs)
+  accept-shortest : (n : ℕ) → value bs ≡ n → bs ≡ encode n → n ≤ largestLength → accept bs at ≡ Number n (at + length bs)
   unfolding accept
-  accepted n v e h = rw (v, accept, same-eq bs (encode n) e, le-leb n largest h) (ap (λ (k : ℕ). Number k (at + length bs)) v)
+  accept-shortest n v e h = rw (v, accept, same-eq bs (encode n) e, le-leb n largestLength h) (ap (λ (k : ℕ). Number k (at + length bs)) v)
 
-  not-shortest : bs ≢ encode (value bs) → accept bs at ≡ Refused
+  accept-longer : bs ≢ encode (value bs) → accept bs at ≡ Refused
   unfolding accept
-  not-shortest e = rw (same-false bs (encode (value bs)) e, accept)
+  accept-longer e = rw (same-false bs (encode (value bs)) e, accept)
 
-  too-large : largest < value bs → accept bs at ≡ Refused
+  accept-too-large : largestLength < value bs → accept bs at ≡ Refused
   unfolding accept
-  too-large h =
+  accept-too-large h =
       by-test (same bs (encode (value bs)))
-      (λ t. rw (t, lt-leb (value bs) largest h, accept))
+      (λ t. rw (t, lt-leb (value bs) largestLength h, accept))
       (λ t. rw (t, accept))
 
 -- the three sizes
-three : (n : ℕ) → (n < 128) ⊎ (((128 ≤ n) × (n < 16384)) ⊎ (16384 ≤ n))
-three n = ⊎-elim (λ h. inl h) (λ (a : 128 ≤ n). ⊎-elim (λ h. inr (inl (a, h))) (λ h. inr (inr h)) (lt-or n 16384)) (lt-or n 128)
+three-sizes : (n : ℕ) → (n < 128) ⊎ (((128 ≤ n) × (n < 16384)) ⊎ (16384 ≤ n))
+three-sizes n = ⊎-elim (λ h. inl h) (λ (a : 128 ≤ n). ⊎-elim (λ h. inr (inl (a, h))) (λ h. inr (inr h)) (lt-or n 16384)) (lt-or n 128)
 
-regroup : (x y z : ℕ) → x + y * 128 + z * 16384 ≡ x + (y + z * 128) * 128
-regroup x y z = omega arith
+base-128 : (x y z : ℕ) → x + y * 128 + z * 16384 ≡ x + (y + z * 128) * 128
+base-128 x y z = omega arith
 
-upper : (x w : ℕ) → x < 128 → (x + w * 128) / 128 ≡ w
-upper x w h = omega arith
+div-128 : (x w : ℕ) → x < 128 → (x + w * 128) / 128 ≡ w
+div-128 x w h = omega arith
 
-lower : (y z : ℕ) → y < 128 → (y + z * 128) % 128 ≡ y
-lower y z h = omega arith
+mod-128 : (y z : ℕ) → y < 128 → (y + z * 128) % 128 ≡ y
+mod-128 y z h = omega arith
 
 -- ---- one, two and three bytes, accepted and refused
 
-refuse-0 : (at : ℕ) → accept [] at ≡ Refused
+refuse-none : (at : ℕ) → accept [] at ≡ Refused
 unfolding value
-refuse-0 at = not-shortest [] at (λ e. let f : [] ≡ 0 ∷ [] = e ∙ encode-1 0 (omega arith) in let z : _≡_ {A = ℕ} 0 1 = cc in omega arith)
+refuse-none at = accept-longer [] at (λ e. let f : [] ≡ 0 ∷ [] = e ∙ encode-1 0 (omega arith) in let z : _≡_ {A = ℕ} 0 1 = cc in omega arith)
 
 module _ (at a : ℕ) where
   accept-1 : a < 128 → accept (a ∷ []) at ≡ Number a (at + 1)
   unfolding value
-  accept-1 h = accepted (a ∷ []) at a (omega arith) (sym (encode-1 a h)) (omega arith)
+  accept-1 h = accept-shortest (a ∷ []) at a (omega arith) (sym (encode-1 a h)) (omega arith)
 
   refuse-1 : 128 ≤ a → accept (a ∷ []) at ≡ Refused
   unfolding value
   refuse-1 h =
-      not-shortest (a ∷ []) at
+      accept-longer (a ∷ []) at
       (λ e. let f : a ∷ [] ≡ (a % 128 + 128 * 0) ∷ [] = e ∙ encode-1 _ (omega arith) in let g : a ≡ a % 128 + 128 * 0 = cc in omega arith)
 
   module _ (b : ℕ) where
@@ -88,13 +89,13 @@ module _ (at a : ℕ) where
         let n : ℕ = a - 128 + b * 128 in
         let x : a ≡ 128 + n % 128 = omega arith in
         let y : b ≡ n / 128 = omega arith in
-        accepted (a ∷ b ∷ []) at n (omega arith) (cc (encode-2 n (omega arith) (omega arith))) (omega arith)
+        accept-shortest (a ∷ b ∷ []) at n (omega arith) (cc (encode-2 n (omega arith) (omega arith))) (omega arith)
 
     pub refuse-2 : 128 ≤ a → (b ≡ 0) ⊎ (128 ≤ b) → accept (a ∷ b ∷ []) at ≡ Refused
     unfolding value
     refuse-2 lo o =
         let n : ℕ = a % 128 + 128 * (b % 128 + 128 * 0) in
-        not-shortest (a ∷ b ∷ []) at
+        accept-longer (a ∷ b ∷ []) at
         (λ (e : a ∷ b ∷ [] ≡ encode n).
         ⊎-elim
         (λ (h : n < 128). let f : a ∷ b ∷ [] ≡ n ∷ [] = e ∙ encode-1 n h in let z : _≡_ {A = ℕ} 0 1 = cc in omega arith)
@@ -111,21 +112,22 @@ module _ (at a : ℕ) where
       accept-3 lo hi lo′ hi′ pos h =
           let n : ℕ = a - 128 + (b - 128) * 128 + c * 16384 in
           let x : a ≡ 128 + n % 128 = omega arith in
-          let q : n / 128 ≡ b - 128 + c * 128 = ap (λ (k : ℕ). k / 128) (regroup (a - 128) (b - 128) c) ∙ upper (a - 128) (b - 128 + c * 128) (omega arith) in
-          let y : b ≡ 128 + n / 128 % 128 = rw (q, lower (b - 128) c (omega arith)) (omega arith) in
+          let q : n / 128 ≡ b - 128 + c * 128 =
+          ap (λ (k : ℕ). k / 128) (base-128 (a - 128) (b - 128) c) ∙ div-128 (a - 128) (b - 128 + c * 128) (omega arith) in
+          let y : b ≡ 128 + n / 128 % 128 = rw (q, mod-128 (b - 128) c (omega arith)) (omega arith) in
           let w : c ≡ n / 128 / 128 = rw q (omega arith) in
           let a′ : a % 128 ≡ a - 128 = omega arith in
           let b′ : b % 128 ≡ b - 128 = omega arith in
-          accepted (a ∷ b ∷ c ∷ []) at n (omega arith) (cc (encode-3 n (omega arith) (omega arith))) (omega arith)
+          accept-shortest (a ∷ b ∷ c ∷ []) at n (omega arith) (cc (encode-3 n (omega arith) (omega arith))) (omega arith)
 
       pub refuse-3 : (c ≡ 0) ⊎ (3 < c) → accept (a ∷ b ∷ c ∷ []) at ≡ Refused
       unfolding value
       refuse-3 o =
           let n : ℕ = a % 128 + 128 * (b % 128 + 128 * (c % 128 + 128 * 0)) in
           ⊎-elim
-          (λ (big : largest < n). too-large (a ∷ b ∷ c ∷ []) at big)
-          (λ (small : n ≤ largest).
-          not-shortest (a ∷ b ∷ c ∷ []) at
+          (λ (big : largestLength < n). accept-too-large (a ∷ b ∷ c ∷ []) at big)
+          (λ (small : n ≤ largestLength).
+          accept-longer (a ∷ b ∷ c ∷ []) at
           (λ (e : a ∷ b ∷ c ∷ [] ≡ encode n).
           ⊎-elim
           (λ (h : n < 128). let f : a ∷ b ∷ c ∷ [] ≡ n ∷ [] = e ∙ encode-1 n h in let z : _≡_ {A = ℕ} 0 1 = cc in omega arith)
@@ -136,15 +138,15 @@ module _ (at a : ℕ) where
           let f : a ∷ b ∷ c ∷ [] ≡ (128 + n % 128) ∷ (128 + n / 128 % 128) ∷ (n / 128 / 128) ∷ [] = e ∙ encode-3 n h (omega arith) in
           let g : c ≡ n / 128 / 128 = cc in
           ⊎-elim (λ (k : c ≡ 0). omega arith) (λ (k : 3 < c). omega arith) o))
-          (three n)))
-          (lt-or largest n)
+          (three-sizes n)))
+          (lt-or largestLength n)
 
 -- ---- what is read, path by path: a, b and c are the bytes at the place
 
 module _ (l : List ℕ) (at : ℕ) where
   pub decode-end : length l ≤ at → decode l at ≡ Refused
   unfolding decode
-  decode-end h = rw (front-end 3 l at h) (refuse-0 at)
+  decode-end h = rw (front-end 3 l at h) (refuse-none at)
 
   pub decode-1 : (a : ℕ) → at < length l → a ≡ getD l at 0 → a < 128 → decode l at ≡ Number a (at + 1)
   unfolding decode
@@ -190,68 +192,67 @@ front-cut (suc k) [] = refl
 front-cut (suc k) (b ∷ bs) =
     by-test (ltb b 128) (λ t. rw (t, front)) (λ t. rw (t, front) (ap (λ (r : List ℕ). b ∷ r) (front-cut k bs)))
 
-accept-sound : (bs : List ℕ) (at n next : ℕ) → accept bs at ≡ Number n next → (n ≤ largest) × (bs ≡ encode n) × (next ≡ at + length bs)
+accept-sound : (bs : List ℕ) (at n next : ℕ) → accept bs at ≡ Number n next → (n ≤ largestLength) × (bs ≡ encode n) × (next ≡ at + length bs)
 unfolding accept
 accept-sound bs at n next h =
     by-test (same bs (encode (value bs)))
     (λ (t : same bs (encode (value bs)) ≡ true).
-    by-test (leb (value bs) largest)
-    (λ (u : leb (value bs) largest ≡ true).
+    by-test (leb (value bs) largestLength)
+    (λ (u : leb (value bs) largestLength ≡ true).
     let e : Number (value bs) (at + length bs) ≡ Number n next = rw (t, u, accept) at h in
     let v : value bs ≡ n = cc in
     let f : bs ≡ encode (value bs) = same-true bs (encode (value bs)) t in
-    (omega (arith, leb-true (value bs) largest u), cc, cc))
-    (λ (u : leb (value bs) largest ≡ false). let e : Refused ≡ Number n next = rw (t, u, accept) at h in absurd (let z : _≡_ {A = ℕ} 0 1 = cc in omega arith)))
+    (omega (arith, leb-true (value bs) largestLength u), cc, cc))
+    (λ (u : leb (value bs) largestLength ≡ false).
+    let e : Refused ≡ Number n next = rw (t, u, accept) at h in
+    absurd (let z : _≡_ {A = ℕ} 0 1 = cc in omega arith)))
     (λ (t : same bs (encode (value bs)) ≡ false). let e : Refused ≡ Number n next = rw (t, accept) at h in absurd (let z : _≡_ {A = ℕ} 0 1 = cc in omega arith))
 
-pub decode-sound : (l : List ℕ) (at n next : ℕ) → decode l at ≡ Number n next → Stands l at n next
+pub decode-sound : (l : List ℕ) (at n next : ℕ) → decode l at ≡ Number n next → EncodedAt l at n next
 unfolding decode
 decode-sound l at n next h =
     let bs : List ℕ = front 3 (drop at l) in
-    let a : (n ≤ largest) × (bs ≡ encode n) × (next ≡ at + length bs) = accept-sound bs at n next h in
+    let a : (n ≤ largestLength) × (bs ≡ encode n) × (next ≡ at + length bs) = accept-sound bs at n next h in
     let f : take (length bs) (drop at l) ≡ bs = front-cut 3 (drop at l) in
     record { small = a .0; form = rw (a .1) at f; after = rw (← a .1) (a .2) }
 
 -- the shortest form of a length is accepted
 
 module _ (l : List ℕ) (at : ℕ) (bs : List ℕ) (e : cut l at (length bs) ≡ bs) where
-  stands-byte : (i : ℕ) → i < length bs → getD bs i 0 ≡ getD l (at + i) 0
-  stands-byte i h = ap (λ (r : List ℕ). getD r i 0) (sym e) ∙ getD-cut l at (length bs) i h
-
-  stands-room : 0 < length bs → at + length bs ≤ length l
-  stands-room h = omega (arith, simp (length-take, length-drop) at (ap length e))
+  cut-byte : (i : ℕ) → i < length bs → getD bs i 0 ≡ getD l (at + i) 0
+  cut-byte i h = ap (λ (r : List ℕ). getD r i 0) (sym e) ∙ getD-cut l at (length bs) i h
 
 module _ (l : List ℕ) (at n : ℕ) where
   complete-1 : n < 128 → cut l at 1 ≡ n ∷ [] → decode l at ≡ Number n (at + 1)
   complete-1 h e =
-      let a : n ≡ getD l (at + 0) 0 = stands-byte l at (n ∷ []) e 0 (omega arith) in
-      decode-1 l at n (omega (arith, stands-room l at (n ∷ []) e (omega arith))) (rw add-zero at a) h
+      let a : n ≡ getD l (at + 0) 0 = cut-byte l at (n ∷ []) e 0 (omega arith) in
+      decode-1 l at n (omega (arith, cut-room l at (length (n ∷ [])) (omega arith) (ap length e))) (rw add-zero at a) h
 
   complete-2 : 128 ≤ n → n < 16384 → cut l at 2 ≡ (128 + n % 128) ∷ (n / 128) ∷ [] → decode l at ≡ Number n (at + 2)
   complete-2 lo hi e =
       let bs : List ℕ = (128 + n % 128) ∷ (n / 128) ∷ [] in
-      let room : at + 2 ≤ length l = stands-room l at bs e (omega arith) in
-      let a : 128 + n % 128 ≡ getD l (at + 0) 0 = stands-byte l at bs e 0 (omega arith) in
-      let b : n / 128 ≡ getD l (at + 1) 0 = stands-byte l at bs e 1 (omega arith) in
+      let room : at + 2 ≤ length l = cut-room l at (length bs) (omega arith) (ap length e) in
+      let a : 128 + n % 128 ≡ getD l (at + 0) 0 = cut-byte l at bs e 0 (omega arith) in
+      let b : n / 128 ≡ getD l (at + 1) 0 = cut-byte l at bs e 1 (omega arith) in
       let same : 128 + n % 128 - 128 + n / 128 * 128 ≡ n = omega arith in
       decode-2 l at (128 + n % 128) (omega arith) (rw add-zero at a) (omega arith) (n / 128) (omega arith) b (omega arith)
       ∙ accept-2 at (128 + n % 128) (n / 128) (omega arith) (omega arith) (omega arith) (omega arith)
       ∙ ap (λ (k : ℕ). Number k (at + 2)) same
 
-  complete-3 : 16384 ≤ n → n ≤ largest → cut l at 3 ≡ (128 + n % 128) ∷ (128 + n / 128 % 128) ∷ (n / 128 / 128) ∷ [] → decode l at ≡ Number n (at + 3)
+  complete-3 : 16384 ≤ n → n ≤ largestLength → cut l at 3 ≡ (128 + n % 128) ∷ (128 + n / 128 % 128) ∷ (n / 128 / 128) ∷ [] → decode l at ≡ Number n (at + 3)
   complete-3 lo hi e =
       let bs : List ℕ = (128 + n % 128) ∷ (128 + n / 128 % 128) ∷ (n / 128 / 128) ∷ [] in
-      let room : at + 3 ≤ length l = stands-room l at bs e (omega arith) in
-      let a : 128 + n % 128 ≡ getD l (at + 0) 0 = stands-byte l at bs e 0 (omega arith) in
-      let b : 128 + n / 128 % 128 ≡ getD l (at + 1) 0 = stands-byte l at bs e 1 (omega arith) in
-      let c : n / 128 / 128 ≡ getD l (at + 2) 0 = stands-byte l at bs e 2 (omega arith) in
+      let room : at + 3 ≤ length l = cut-room l at (length bs) (omega arith) (ap length e) in
+      let a : 128 + n % 128 ≡ getD l (at + 0) 0 = cut-byte l at bs e 0 (omega arith) in
+      let b : 128 + n / 128 % 128 ≡ getD l (at + 1) 0 = cut-byte l at bs e 1 (omega arith) in
+      let c : n / 128 / 128 ≡ getD l (at + 2) 0 = cut-byte l at bs e 2 (omega arith) in
       let same : 128 + n % 128 - 128 + (128 + n / 128 % 128 - 128) * 128 + n / 128 / 128 * 16384 ≡ n = omega arith in
       decode-3 l at (128 + n % 128) (omega arith) (rw add-zero at a) (omega arith) (128 + n / 128 % 128) (omega arith) b (omega arith)
       (n / 128 / 128) (omega arith) c
       ∙ accept-3 at (128 + n % 128) (128 + n / 128 % 128) (n / 128 / 128) (omega arith) (omega arith) (omega arith) (omega arith) (omega arith) (omega arith)
       ∙ ap (λ (k : ℕ). Number k (at + 3)) same
 
-pub decode-complete : (l : List ℕ) (at n next : ℕ) → Stands l at n next → decode l at ≡ Number n next
+pub decode-complete : (l : List ℕ) (at n next : ℕ) → EncodedAt l at n next → decode l at ≡ Number n next
 decode-complete l at n next s =
     let form : cut l at (length (encode n)) ≡ encode n = s .form in
     ⊎-elim
@@ -261,10 +262,10 @@ decode-complete l at n next s =
     (λ (h : 16384 ≤ n).
     let e : encode n ≡ (128 + n % 128) ∷ (128 + n / 128 % 128) ∷ (n / 128 / 128) ∷ [] = encode-3 n h (omega (arith, s .small)) in
     rw (s .after, e) (complete-3 l at n h (s .small) (rw e at form))))
-    (three n)
+    (three-sizes n)
 
 -- what is written reads back
-pub decode-encode : (l : List ℕ) (at n : ℕ) → n ≤ largest → at + length (encode n) ≤ length l
+pub decode-encode : (l : List ℕ) (at n : ℕ) → n ≤ largestLength → at + length (encode n) ≤ length l
     → decode (sets l at (encode n)) at ≡ Number n (at + length (encode n))
 decode-encode l at n h room =
     decode-complete (sets l at (encode n)) at n _ (record { small = h; form = cut-sets-same l at (encode n) room; after = refl })
@@ -273,8 +274,8 @@ decode-encode l at n h room =
 pub one-form : (l l′ : List ℕ) (at at′ n next next′ : ℕ) → decode l at ≡ Number n next → decode l′ at′ ≡ Number n next′
     → cut l at (next - at) ≡ cut l′ at′ (next′ - at′)
 one-form l l′ at at′ n next next′ h h′ =
-    let s : Stands l at n next = decode-sound l at n next h in
-    let s′ : Stands l′ at′ n next′ = decode-sound l′ at′ n next′ h′ in
+    let s : EncodedAt l at n next = decode-sound l at n next h in
+    let s′ : EncodedAt l′ at′ n next′ = decode-sound l′ at′ n next′ h′ in
     let e : next - at ≡ length (encode n) = omega (arith, s .after) in
     let e′ : next′ - at′ ≡ length (encode n) = omega (arith, s′ .after) in
     rw (e, e′) (s .form ∙ sym (s′ .form))

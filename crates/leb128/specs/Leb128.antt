@@ -30,20 +30,20 @@ value [] = 0
 value (b ∷ bs) = b % 128 + 128 * value bs
 
 -- no length is larger
-abbrev pub largest : ℕ
-largest = 65535
+abbrev pub largestLength : ℕ
+largestLength = 65535
 
 -- bytes from place `at` that are the shortest form of a length: the length and the next place
 unfoldable pub accept : List ℕ → ℕ → Decoded
 accept bs at =
-    elim (same bs (encode (value bs)) && leb (value bs) largest) [ true ↦ Number (value bs) (at + length bs) | false ↦ Refused ]
+    elim (same bs (encode (value bs)) && leb (value bs) largestLength) [ true ↦ Number (value bs) (at + length bs) | false ↦ Refused ]
 
 -- what is read at place `at`: three bytes are enough for every length
 unfoldable pub decode : List ℕ → ℕ → Decoded
 decode l at = accept (front 3 (drop at l)) at
 
 -- a length stands at a place in its shortest form, and `next` is the place after it; `decode` reads exactly these
-pub record Stands (l : List ℕ) (at n next : ℕ) : Type 0 where
-  pub small : n ≤ largest
+pub record EncodedAt (l : List ℕ) (at n next : ℕ) : Type 0 where
+  pub small : n ≤ largestLength
   pub form : cut l at (length (encode n)) ≡ encode n
   pub after : next ≡ at + length (encode n)

@@ -1,15 +1,15 @@
 -- How often a number stands in a list, and where.
-use Prim.Native.Nat.{ℕ, suc, _+_, _<_}
+use Prim.Native.Nat.{ℕ, suc, _<_, _≤_, _+_}
 use mathlib.Core.List.{List, [], _∷_, List·Memᴰ, List·Memᴰ·head, List·Memᴰ·tail, List·Memᴰ·not-nil, List·Memᴰ·cases-cons}
-use mathlib.Core.Path.{_≡_, refl, ap, sym, _∙_}
+use mathlib.Core.Path.{_≡_, refl, sym, _∙_, ap}
 use mathlib.Core.Logic.{⊎-elim, _≢_}
 use native.Mathlib.Omega.{arith}
-use native.Mathlib.Nat.{add-zero}
-use lib.Dec.{eqb}
+use lib.Dec.{eqb, ltb}
 use lib.ListN.{length, getD}
-use Rattle.lists.specs.Cases.{same-or}
+use borrow.Author.Tests.{eq-eqb, ne-eqb, lt-ltb, le-ltb}
+use Rattle.lists.specs.Cases.{same-or, lt-or}
 use Rattle.lists.specs.Lists.{those, howMany}
-use Rattle.lists.specs.Quantify.{Below}
+use Rattle.lists.specs.Quantify.{Every}
 use Rattle.lists.proofs.Lists.{howMany-same, howMany-other}
 
 pub member-met : (t : ℕ) (ts : List ℕ) → List·Memᴰ t ts → 0 < howMany ts (eqb t)
@@ -31,26 +31,36 @@ stranger-unmet t (x ∷ ts) n =
     (same-or t x)
 
 -- the place of a member
-pub place : (t : ℕ) (ts : List ℕ) → List·Memᴰ t ts → (i : ℕ) × (i < length ts) × (getD ts i 0 ≡ t)
-place t [] m = absurd (List·Memᴰ·not-nil m)
-place t (x ∷ ts) m =
+pub member-place : (t : ℕ) (ts : List ℕ) → List·Memᴰ t ts → (i : ℕ) × (i < length ts) × (getD ts i 0 ≡ t)
+member-place t [] m = absurd (List·Memᴰ·not-nil m)
+member-place t (x ∷ ts) m =
     ⊎-elim
     (λ (e : t ≡ x). (0, omega arith, sym e))
-    (λ k. let r : (i : ℕ) × (i < length ts) × (getD ts i 0 ≡ t) = place t ts k in (suc (r .0), omega (arith, r .1), r .2))
+    (λ k. let r : (i : ℕ) × (i < length ts) × (getD ts i 0 ≡ t) = member-place t ts k in (suc (r .0), omega (arith, r .1), r .2))
     (List·Memᴰ·cases-cons m)
 
--- a list whose elements tell their places, counted from c, has each element once
-pub placed-once : (f : ℕ → ℕ) (t : ℕ) (ts : List ℕ) (c : ℕ) → Below (length ts) (λ i. f (getD ts i 0) ≡ c + i) → List·Memᴰ t ts → howMany ts (eqb t) ≡ 1
-placed-once f t [] c g m = absurd (List·Memᴰ·not-nil m)
-placed-once f t (x ∷ ts) c g m =
-    let rest : Below (length ts) (λ i. f (getD ts i 0) ≡ suc c + i) = λ i l. let e : suc c + i ≡ c + suc i = omega arith in rw e (g (suc i) (omega arith)) in
+-- ---- numbers below a bound, counted one by one
+
+pub howMany-ltb-more : (n : ℕ) (xs : List ℕ) → howMany xs (λ x. ltb x (n + 1)) ≡ howMany xs (λ x. ltb x n) + howMany xs (eqb n)
+unfolding those
+howMany-ltb-more n [] = refl
+howMany-ltb-more n (x ∷ xs) =
     ⊎-elim
-    (λ (e : t ≡ x).
-    let here : f t ≡ c = ap f e ∙ (g 0 (omega arith) ∙ add-zero c) in
-    let out : List·Memᴰ t ts → ⊥ = λ k.
-    let r : (i : ℕ) × (i < length ts) × (getD ts i 0 ≡ t) = place t ts k in
-    omega (arith, rest (r .0) (r .1), ap f (r .2), here) in
-    howMany-same t x ts e ∙ ap suc (stranger-unmet t ts out))
-    (λ (e : t ≢ x).
-    howMany-other t x ts e ∙ ⊎-elim (λ (q : t ≡ x). absurd (e q)) (λ k. placed-once f t ts (suc c) rest k) (List·Memᴰ·cases-cons m))
-    (same-or t x)
+    (λ (e : n ≡ x).
+    rw (eq-eqb n x e, lt-ltb x (n + 1) (omega arith), le-ltb x n (omega arith), those) (omega (arith, howMany-ltb-more n xs)))
+    (λ (e : n ≢ x).
+    ⊎-elim
+    (λ (l : x < n). rw (ne-eqb n x e, lt-ltb x (n + 1) (omega arith), lt-ltb x n l, those) (omega (arith, howMany-ltb-more n xs)))
+    (λ (l : n ≤ x). rw (ne-eqb n x e, le-ltb x (n + 1) (omega arith), le-ltb x n l, those) (howMany-ltb-more n xs))
+    (lt-or x n))
+    (same-or n x)
+
+pub howMany-ltb-zero : (xs : List ℕ) → howMany xs (λ x. ltb x 0) ≡ 0
+unfolding those
+howMany-ltb-zero [] = refl
+howMany-ltb-zero (x ∷ xs) = rw (le-ltb x 0 (omega arith), those) (howMany-ltb-zero xs)
+
+pub howMany-ltb-all : (n : ℕ) (xs : List ℕ) → Every xs (λ x. x < n) → howMany xs (λ x. ltb x n) ≡ length xs
+unfolding those
+howMany-ltb-all n [] f = refl
+howMany-ltb-all n (x ∷ xs) f = rw (lt-ltb x n (f x (List·Memᴰ·head refl)), those) (ap suc (howMany-ltb-all n xs (λ y m. f y (List·Memᴰ·tail m))))

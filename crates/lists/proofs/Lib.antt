@@ -6,3 +6,6 @@ pub mod Rows
 pub mod Counted
 pub mod SameLists
 pub mod Totals
+pub mod Numbers
+pub mod Below
+pub mod Parts

@@ -53,7 +53,7 @@ module _ {A : Type 0} where
   flatMap-append f (x ∷ xs) ys = ap (λ (r : List A). f x ++ r) (flatMap-append f xs ys) ∙ sym (append-assoc (f x) (flatMap f xs) (flatMap f ys))
 
   -- with one element more at the end
-  flatMap-last : {B : Type 0} (f : B → List A) (xs : List B) (x : B) → flatMap f (xs ++ (x ∷ [])) ≡ flatMap f xs ++ f x
+  pub flatMap-last : {B : Type 0} (f : B → List A) (xs : List B) (x : B) → flatMap f (xs ++ (x ∷ [])) ≡ flatMap f xs ++ f x
   unfolding flatMap
   flatMap-last f xs x = flatMap-append f xs (x ∷ []) ∙ ap (λ (r : List A). flatMap f xs ++ r) (append-nil (f x))
 

@@ -17,44 +17,44 @@ use Rattle.lists.proofs.Lists.{span-more, howMany-same, howMany-other}
 
 -- ---- how often a number stands in a row: once or not at all
 
-pub row-before : (a n i : ℕ) → i < a → howMany (span a n) (eqb i) ≡ 0
+pub howMany-span-before : (a n i : ℕ) → i < a → howMany (span a n) (eqb i) ≡ 0
 unfolding span those
-row-before a zero i h = refl
-row-before a (suc n) i h = howMany-other i a (span (suc a) n) (omega arith) ∙ row-before (suc a) n i (omega arith)
+howMany-span-before a zero i h = refl
+howMany-span-before a (suc n) i h = howMany-other i a (span (suc a) n) (omega arith) ∙ howMany-span-before (suc a) n i (omega arith)
 
-pub row-after : (a n i : ℕ) → a + n ≤ i → howMany (span a n) (eqb i) ≡ 0
+pub howMany-span-after : (a n i : ℕ) → a + n ≤ i → howMany (span a n) (eqb i) ≡ 0
 unfolding span those
-row-after a zero i h = refl
-row-after a (suc n) i h = howMany-other i a (span (suc a) n) (omega arith) ∙ row-after (suc a) n i (omega arith)
+howMany-span-after a zero i h = refl
+howMany-span-after a (suc n) i h = howMany-other i a (span (suc a) n) (omega arith) ∙ howMany-span-after (suc a) n i (omega arith)
 
-pub row-in : (a n i : ℕ) → a ≤ i → i < a + n → howMany (span a n) (eqb i) ≡ 1
+pub howMany-span-in : (a n i : ℕ) → a ≤ i → i < a + n → howMany (span a n) (eqb i) ≡ 1
 unfolding span those
-row-in a zero i l h = absurd (omega arith)
-row-in a (suc n) i l h =
+howMany-span-in a zero i l h = absurd (omega arith)
+howMany-span-in a (suc n) i l h =
     ⊎-elim
-    (λ (e : i ≡ a). howMany-same i a (span (suc a) n) e ∙ ap suc (row-before (suc a) n i (omega arith)))
-    (λ (e : i ≢ a). howMany-other i a (span (suc a) n) e ∙ row-in (suc a) n i (omega arith) (omega arith))
+    (λ (e : i ≡ a). howMany-same i a (span (suc a) n) e ∙ ap suc (howMany-span-before (suc a) n i (omega arith)))
+    (λ (e : i ≢ a). howMany-other i a (span (suc a) n) e ∙ howMany-span-in (suc a) n i (omega arith) (omega arith))
     (same-or i a)
 
 -- ---- the first that passes a test
 
 module _ (p : ℕ → Bool) where
-  pub first-at : (a n k : ℕ) → k < n → Below k (λ i. p (a + i) ≡ false) → p (a + k) ≡ true → first (span a n) p ≡ some (a + k)
+  pub first-span-at : (a n k : ℕ) → k < n → Below k (λ i. p (a + i) ≡ false) → p (a + k) ≡ true → first (span a n) p ≡ some (a + k)
   unfolding span first
-  first-at a zero k h f t = absurd (omega arith)
-  first-at a (suc n) zero h f t = let u : p a ≡ true = rw add-zero at t in rw (u, add-zero)
-  first-at a (suc n) (suc k) h f t =
+  first-span-at a zero k h f t = absurd (omega arith)
+  first-span-at a (suc n) zero h f t = let u : p a ≡ true = rw add-zero at t in rw (u, add-zero)
+  first-span-at a (suc n) (suc k) h f t =
       let u : p a ≡ false = rw add-zero at (f 0 (omega arith)) in
       let e : suc a + k ≡ a + suc k = omega arith in
       rw (u, ← e)
-      (first-at (suc a) n k (omega arith) (λ i l. let g : suc a + i ≡ a + suc i = omega arith in rw g (f (suc i) (omega arith))) (rw e t))
+      (first-span-at (suc a) n k (omega arith) (λ i l. let g : suc a + i ≡ a + suc i = omega arith in rw g (f (suc i) (omega arith))) (rw e t))
 
-  pub first-none : (a n : ℕ) → Below n (λ i. p (a + i) ≡ false) → first (span a n) p ≡ none
+  pub first-span-none : (a n : ℕ) → Below n (λ i. p (a + i) ≡ false) → first (span a n) p ≡ none
   unfolding span first
-  first-none a zero f = refl
-  first-none a (suc n) f =
+  first-span-none a zero f = refl
+  first-span-none a (suc n) f =
       let u : p a ≡ false = rw add-zero at (f 0 (omega arith)) in
-      rw (u, first) (first-none (suc a) n (λ i l. let g : suc a + i ≡ a + suc i = omega arith in rw g (f (suc i) (omega arith))))
+      rw (u, first) (first-span-none (suc a) n (λ i l. let g : suc a + i ≡ a + suc i = omega arith in rw g (f (suc i) (omega arith))))
 
   -- ---- one number more
 
@@ -66,16 +66,16 @@ module _ (p : ℕ → Bool) where
       (λ (t : p x ≡ true). rw (t, those) (ap (λ (r : List ℕ). x ∷ r) (those-append xs ys)))
       (λ (t : p x ≡ false). rw (t, those) (those-append xs ys))
 
-  more : (n : ℕ) → those (below (n + 1)) p ≡ those (below n) p ++ those (n ∷ []) p
-  more n = rw (add-one, span-more 0 n, zero-add) (those-append (below n) (n ∷ []))
+  those-below : (n : ℕ) → those (below (n + 1)) p ≡ those (below n) p ++ those (n ∷ []) p
+  those-below n = rw (add-one, span-more 0 n, zero-add) (those-append (below n) (n ∷ []))
 
   pub those-more : (n : ℕ) → p n ≡ true → those (below (n + 1)) p ≡ those (below n) p ++ (n ∷ [])
   unfolding those
-  those-more n t = more n ∙ rw (t, those)
+  those-more n t = those-below n ∙ rw (t, those)
 
   pub those-same : (n : ℕ) → p n ≡ false → those (below (n + 1)) p ≡ those (below n) p
   unfolding those
-  those-same n t = more n ∙ rw (t, those) (append-nil (those (below n) p))
+  those-same n t = those-below n ∙ rw (t, those) (append-nil (those (below n) p))
 
   pub howMany-more : (n : ℕ) → p n ≡ true → howMany (below (n + 1)) p ≡ howMany (below n) p + 1
   howMany-more n t = ap length (those-more n t) ∙ length-append (those (below n) p) (n ∷ [])

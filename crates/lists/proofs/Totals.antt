@@ -1,5 +1,5 @@
 -- Sums over lists.
-use Prim.Native.Nat.{ℕ, _+_, _≤_, _<_}
+use Prim.Native.Nat.{ℕ, suc, _+_, _≤_, _<_}
 use mathlib.Core.List.{List, [], _∷_, map, flatMap, List·Memᴰ, List·Memᴰ·head, List·Memᴰ·tail, List·Memᴰ·not-nil, List·Memᴰ·cases-cons}
 use mathlib.Core.Path.{_≡_, refl, ap, sym, _∙_}
 use mathlib.Core.Logic.{⊎-elim, _≢_}
@@ -8,9 +8,10 @@ use native.Mathlib.Omega.{arith}
 use lib.Dec.{eqb}
 use lib.ListN.{length}
 use Rattle.lists.specs.Cases.{by-test, same-or}
-use Rattle.lists.specs.Lists.{those, howMany, total}
+use Rattle.lists.specs.Lists.{span, those, howMany, total}
 use Rattle.lists.specs.Quantify.{Every}
-use Rattle.lists.proofs.Lists.{total-append, howMany-append, howMany-same, howMany-other}
+use Rattle.lists.proofs.Lists.{length-span, total-append, howMany-append, howMany-same, howMany-other}
+use Rattle.lists.proofs.Rows.{howMany-span-in}
 use Rattle.lists.proofs.Counted.{member-met}
 
 pub total-same : {A : Type 0} (ts : List A) (f f′ : A → ℕ) → Every ts (λ u. f′ u ≡ f u) → total ts f′ ≡ total ts f
@@ -95,3 +96,24 @@ module _ {A : Type 0} where
       by-test (p x)
       (λ (t : p x ≡ true). rw (t, those, total) (ap (λ (n : ℕ). F x + n) (those-total p F xs)))
       (λ (t : p x ≡ false). rw (t, those, total) (omega (arith, those-total p F xs)))
+
+-- ---- lists of numbers in a row
+
+-- counted number by number
+pub length-in-span : (a n : ℕ) (l : List ℕ) → Every l (λ x. (a ≤ x) × (x < a + n)) → length l ≡ total (span a n) (λ t. howMany l (eqb t))
+unfolding those
+length-in-span a n [] e = sym (total-zero (span a n))
+length-in-span a n (x ∷ l) e =
+    let f : ℕ → ℕ = λ t. howMany l (eqb t) in
+    let f′ : ℕ → ℕ = λ t. howMany (x ∷ l) (eqb t) in
+    let h : (a ≤ x) × (x < a + n) = e x (List·Memᴰ·head refl) in
+    let sum : total (span a n) f′ + f x ≡ total (span a n) f + f′ x =
+    total-change (span a n) x f f′ (howMany-span-in a n x (h .0) (h .1)) (λ u m ne. howMany-other u x l ne) in
+    let rest : length l ≡ total (span a n) f = length-in-span a n l (λ y m. e y (List·Memᴰ·tail m)) in
+    let here : f′ x ≡ suc (f x) = howMany-same x x l refl in
+    omega arith
+
+-- where each number of the row is there once, the list is as long as the row
+pub length-span-once : (a n : ℕ) (l : List ℕ) → Every l (λ x. (a ≤ x) × (x < a + n)) → Every (span a n) (λ t. howMany l (eqb t) ≡ 1) → length l ≡ n
+length-span-once a n l e once =
+    length-in-span a n l e ∙ (total-same (span a n) (λ _. 1) (λ t. howMany l (eqb t)) once ∙ (sym (length-total (span a n)) ∙ length-span a n))

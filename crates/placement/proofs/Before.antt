@@ -4,7 +4,6 @@ use mathlib.Core.List.{List, [], _∷_, _++_, List·Memᴰ}
 use mathlib.Core.Path.{_≡_}
 use mathlib.Core.Logic.{_≢_}
 use native.Mathlib.Omega.{arith}
-use native.Mathlib.Nat.{mul-le-mul-right}
 use lib.ListN.{length}
 use Rattle.words.specs.Bytes.{Bytes}
 use Rattle.leb128.specs.Leb128.{encode}
@@ -18,14 +17,16 @@ use Rattle.layout.proofs.Chunks.{chunk-add, chunk-inside}
 use Rattle.chains.specs.Chains.{chain}
 use Rattle.entries.specs.Keys.{KeyFits, segmentOf, lookupKey, slotKey, slotChunk, slotRest, slotWith}
 use Rattle.entries.specs.Stored.{entryBytes, chunksFor}
-use Rattle.entries.specs.Live.{slotAt, fullSlots}
-use Rattle.entries.proofs.Sizes.{chunks-pos, chunks-enough, length-entry}
+use Rattle.entries.specs.Live.{fullSlots}
 use Rattle.entries.proofs.Hashes.{lookup-lt, lookup-full}
-use Rattle.entries.proofs.Slots.{key-with, chunk-with, rest-with, with-fits, with-full}
-use Rattle.search.specs.Rules.{keyAt}
 use Rattle.upkeep.specs.Sound.{SoundBut}
-use Rattle.upkeep.proofs.Chained.{chain-in-tiers}
+use Rattle.placement.specs.Asking.{CanPlace}
+use Rattle.placement.proofs.Written.{some-chunks as Written·some-chunks, chunk-lt, entry-fits, entry-room as Written·entry-room}
+use Rattle.chains.proofs.Tiers.{chain-tiers}
 use Rattle.upkeep.proofs.Sound.{sound-image}
+use Rattle.entries.proofs.Slots.{slotKey-with, slotWith-fits, slotWith-full, slotChunk-with, slotRest-with}
+use Rattle.lists.specs.Quantify.{Every}
+use Rattle.search.specs.Asking.{Lacks}
 
 -- ---- two lists of bytes, one after the other
 
@@ -52,7 +53,7 @@ pub record Places (z : Shape) (img but : List ℕ) (s t c : ℕ) (key value : Li
   pub roomy : length (fullSlots z img t) + 2 ≤ z .settings .slots
   pub rangeEnds : c + chunksFor (z .settings) (length key) (length value) ≤ z .settings .chunks
   pub clearRun : (i : ℕ) → c ≤ i → i < c + chunksFor (z .settings) (length key) (length value) → mark z img t i ≡ 0
-  pub absent : (u : ℕ) → List·Memᴰ u (chain z img s) → (k : ℕ) → k < z .settings .slots → slotAt z img u k ≢ 0 → keyAt z img u k ≢ key
+  pub absent : Every (chain z img s) (Lacks z img key)
 
 module _ {z : Shape} {img but : List ℕ} {s t c : ℕ} {key value : List ℕ} (p : Places z img but s t c key value) where
   open Shape z using (settings)
@@ -62,36 +63,41 @@ module _ {z : Shape} {img but : List ℕ} {s t c : ℕ} {key value : List ℕ} (
   image = sound-image z img (p .sound)
 
   pub is-tier : IsTier z t
-  is-tier = chain-in-tiers z img (p .sound .fits .chains) s t (p .segmentIn) (p .tierIn)
+  is-tier = chain-tiers z img (p .sound .fits .chains) s (p .segmentIn) t (p .tierIn)
+
+  -- what the code asks for
+  pub can-place : CanPlace z img t c key value
+  can-place =
+      record {
+        write = record {
+          tier = record { framed = image .framed; tierIn = is-tier };
+          keyLong = p .keyLong .1;
+          valueLong = p .valueLong;
+          rangeEnds = p .rangeEnds;
+        };
+        takes = record {
+          someEmpty = p .sound .fits .entries .tiersFit s (p .segmentIn) t (p .tierIn) .slotsFit .someEmpty;
+          lacks = p .absent t (p .tierIn);
+        };
+      }
 
   -- ---- its chunks and bytes
 
   pub some-chunks : 0 < chunksFor settings (length key) (length value)
-  some-chunks = chunks-pos settings (length key) (length value) (omega (arith, p .keyLong)) (p .valueLong) (p .sound .fits .valid)
+  some-chunks = Written·some-chunks (can-place .write)
 
   pub chunk-in : c < chunks
-  chunk-in = omega (arith, some-chunks, p .rangeEnds)
-
-  pub entry-fits : length (entryBytes settings key value) ≤ chunksFor settings (length key) (length value) * chunkSize
-  entry-fits =
-      omega (
-        arith,
-        length-entry settings key value,
-        chunks-enough settings (length key) (length value) (omega (arith, p .keyLong)) (p .valueLong) (p .sound .fits .valid),
-      )
+  chunk-in = chunk-lt (can-place .write)
 
   -- they end within the run, and so within the tier's chunks
   pub entry-room : length (entryBytes settings key value) ≤ (chunks - c) * chunkSize
-  entry-room =
-      let n : ℕ = chunksFor settings (length key) (length value) in
-      let h : n ≤ chunks - c = omega (arith, p .rangeEnds) in
-      omega (arith, entry-fits, mul-le-mul-right chunkSize h)
+  entry-room = Written·entry-room (can-place .write)
 
   pub entry-end : chunkAt z t c + length (entryBytes settings key value) ≤ chunkAt z t (c + chunksFor settings (length key) (length value))
-  entry-end = omega (arith, entry-fits, chunk-add z t c (chunksFor settings (length key) (length value)))
+  entry-end = omega (arith, entry-fits (can-place .write), chunk-add z t c (chunksFor settings (length key) (length value)))
 
-  pub entry-inside : chunkAt z t c + length (entryBytes settings key value) ≤ chunkAt z t chunks
-  entry-inside = omega (arith, entry-end, chunk-inside z t (c + chunksFor settings (length key) (length value)) (p .rangeEnds))
+  pub entry-in-chunks : chunkAt z t c + length (entryBytes settings key value) ≤ chunkAt z t chunks
+  entry-in-chunks = omega (arith, entry-end, chunk-inside z t (c + chunksFor settings (length key) (length value)) (p .rangeEnds))
 
   pub entry-bytes : Bytes (entryBytes settings key value)
   unfolding entryBytes
@@ -108,16 +114,16 @@ module _ {z : Shape} {img but : List ℕ} {s t c : ℕ} {key value : List ℕ} (
   chunk-bits = omega (arith, chunk-in, p .sound .fits .valid .chunkBits .1 .1)
 
   pub number-full : numberFor z key c ≢ 0
-  number-full = with-full settings (lookupKey settings key) c (lookup-full (p .sound .fits .valid) key)
+  number-full = slotWith-full settings (lookupKey settings key) c (lookup-full (p .sound .fits .valid) key)
 
   pub number-fits : numberFor z key c < 256 ^ slotSize
-  number-fits = with-fits settings (lookupKey settings key) c (lookup-lt (p .sound .fits .valid) key) chunk-bits (p .sound .fits .valid)
+  number-fits = slotWith-fits settings (lookupKey settings key) c (lookup-lt (p .sound .fits .valid) key) chunk-bits (p .sound .fits .valid)
 
   pub number-key : slotKey settings (numberFor z key c) ≡ lookupKey settings key
-  number-key = key-with settings (lookupKey settings key) c (lookup-lt (p .sound .fits .valid) key)
+  number-key = slotKey-with settings (lookupKey settings key) c (lookup-lt (p .sound .fits .valid) key)
 
   pub number-chunk : slotChunk settings (numberFor z key c) ≡ c
-  number-chunk = chunk-with settings (lookupKey settings key) c (lookup-lt (p .sound .fits .valid) key) chunk-bits
+  number-chunk = slotChunk-with settings (lookupKey settings key) c (lookup-lt (p .sound .fits .valid) key) chunk-bits
 
   pub number-rest : slotRest settings (numberFor z key c) ≡ 0
-  number-rest = rest-with settings (lookupKey settings key) c (lookup-lt (p .sound .fits .valid) key) chunk-bits
+  number-rest = slotRest-with settings (lookupKey settings key) c (lookup-lt (p .sound .fits .valid) key) chunk-bits

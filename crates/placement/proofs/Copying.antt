@@ -1,11 +1,12 @@
 -- Bytes written one by one, and an entry's bytes written part by part.
 use Prim.Native.Nat.{ℕ, suc, _+_, _≤_, _<_}
-use mathlib.Core.List.{List, [], _∷_, _++_}
+use mathlib.Core.List.{List, _++_}
 use mathlib.Core.Path.{_≡_, refl, ap, ap₂, sym, _∙_}
 use native.Mathlib.Omega.{arith}
 use native.Mathlib.Nat.{add-zero}
 use lib.ListN.{length, getD, set, drop, length-append, length-set, drop-of-length-le}
 use lib.Seq.{sets, drop-cons}
+use Rattle.words.proofs.Bytes.{sets-then}
 use Rattle.settings.specs.declared.Settings.{Settings}
 use Rattle.leb128.specs.Leb128.{encode}
 use Rattle.entries.specs.Stored.{valueOffset, entryBytes}
@@ -39,16 +40,6 @@ module _ {l₀ : List ℕ} {at : ℕ} {bs l : List ℕ} {i : ℕ} (w : Copying l
 
 -- ---- one part after the other
 
-sets-append : (l : List ℕ) (at : ℕ) (xs ys : List ℕ) → sets l at (xs ++ ys) ≡ sets (sets l at xs) (at + length xs) ys
-sets-append l at [] ys = ap (λ (k : ℕ). sets l k ys) (sym (add-zero at))
-sets-append l at (x ∷ xs) ys =
-    sets-append (set l at x) (suc at) xs ys ∙
-    ap (λ (k : ℕ). sets (sets (set l at x) (suc at) xs) k ys) (let e : suc at + length xs ≡ at + suc (length xs) = omega arith in e)
-
-then-sets : (l : List ℕ) (at : ℕ) (xs ys : List ℕ) {one : List ℕ} {next : ℕ} → one ≡ sets l at xs → next ≡ at + length xs
-    → sets one next ys ≡ sets l at (xs ++ ys)
-then-sets l at xs ys e n = ap₂ (λ (x : List ℕ) (k : ℕ). sets x k ys) e n ∙ sym (sets-append l at xs ys)
-
 module _ (st : Settings) (key value : List ℕ) where
   -- the four parts fit where the entry does
   pub entry-room : (at n : ℕ) → at + length (entryBytes st key value) ≤ n
@@ -65,6 +56,6 @@ module _ (st : Settings) (key value : List ℕ) where
       let b : List ℕ = encode (length value) in
       let h₂ : keyAt + length key ≡ at + length (a ++ key) = omega (arith, length-append a key) in
       let h₃ : valueAt ≡ at + length (a ++ key ++ b) = omega (arith, length-append a key, length-append (a ++ key) b) in
-      let f₂ : two ≡ sets img at (a ++ key) = e₂ ∙ then-sets img at a key e₁ ek in
-      let f₃ : three ≡ sets img at (a ++ key ++ b) = e₃ ∙ then-sets img at (a ++ key) b f₂ h₂ in
-      e₄ ∙ then-sets img at (a ++ key ++ b) value f₃ h₃
+      let f₂ : two ≡ sets img at (a ++ key) = e₂ ∙ sets-then img at a key e₁ ek in
+      let f₃ : three ≡ sets img at (a ++ key ++ b) = e₃ ∙ sets-then img at (a ++ key) b f₂ h₂ in
+      e₄ ∙ sets-then img at (a ++ key ++ b) value f₃ h₃

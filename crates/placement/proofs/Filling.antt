@@ -14,9 +14,10 @@ use Rattle.layout.specs.declared.Shape.{Shape}
 use Rattle.layout.specs.Places.{tier, slot, put, mark, putMarks, wide, partWide, chunkAt}
 use Rattle.layout.specs.Frame.{Framed, Image}
 use Rattle.layout.proofs.Places.{get-same, get-other, by-kind}
-use Rattle.layout.proofs.Marks.{length-putMarks, image-putMarks, mark-put-other, get-putMarks-other, mark-putMarks-out, mark-putMarks-in}
-use Rattle.layout.proofs.Chunks.{chunk-at, chunk-rest, chunks-inside, image-sets, get-sets-other, mark-sets, cut-put-chunks, cut-putMarks-chunks}
+use Rattle.layout.proofs.Marks.{length-putMarks, image-putMarks, mark-put-other, mark-putMarks-out, mark-putMarks-in}
+use Rattle.layout.proofs.Chunks.{chunk-at, chunk-rest, chunks-inside, image-sets, mark-sets, cut-put-chunks, cut-putMarks-chunks}
 use Rattle.entries.specs.Live.{slotAt}
+use Rattle.placement.proofs.Written.{slot-wrote}
 use Rattle.placement.proofs.Writing.{filled, Writes}
 
 module _ (z : Shape) (img : List ℕ) (t c n : ℕ) (bs : List ℕ) (w : Writes z img t c n bs) where
@@ -40,9 +41,7 @@ module _ (z : Shape) (img : List ℕ) (t c n : ℕ) (bs : List ℕ) (w : Writes 
   wrote-image = image-sets (image-putMarks (w .image) t c n 1 (omega arith)) (chunkAt z t c) bs (w .bytes)
 
   pub wrote-slot : (j : ℕ) → j < slots → slotAt z (sets (putMarks z img t c n 1) (chunkAt z t c) bs) t j ≡ slotAt z img t j
-  wrote-slot j h =
-      get-sets-other fr marked t c bs (tier t (slot j)) (w .tierIn) le (w .room) (w .tierIn, h) (λ i. by-kind (omega arith))
-      ∙ get-putMarks-other fr img t c n 1 (tier t (slot j)) (w .tierIn) (w .ends) (w .tierIn, h) (λ b. by-kind (omega arith))
+  wrote-slot = slot-wrote fr img t c n bs (w .tierIn) (w .ends) (w .room)
 
   module _ (r v : ℕ) (slotIn : r < slots) where
     -- ---- the slots

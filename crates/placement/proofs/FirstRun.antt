@@ -1,17 +1,16 @@
 -- The run that a tier or a chain has for an entry, found as the code looks for it.
-use Prim.Native.Nat.{ℕ, suc, _+_, _-_, _≤_, _<_}
-use mathlib.Core.List.{List, [], _∷_}
-use mathlib.Core.Path.{_≡_, refl, sym, _∙_}
+use Prim.Native.Nat.{ℕ, _+_, _≤_, _<_}
+use mathlib.Core.List.{List, [], _∷_, _++_, append-nil, List·Memᴰ·head, List·Memᴰ·tail}
+use mathlib.Core.Path.{_≡_, refl, ap, sym, _∙_}
 use mathlib.Core.Logic.{_≢_}
 use mathlib.Core.Bool.{Bool}
-use native.Mathlib.Omega.{arith}
 use borrow.Author.Tests.{le-leb, lt-leb}
-use Rattle.lists.specs.Quantify.{Every}
+use Rattle.lists.specs.Quantify.{Every, every-none}
+use Rattle.lists.proofs.Members.{every-more}
 use Rattle.layout.specs.declared.Shape.{Shape}
 use Rattle.layout.specs.Tiers.{tiers, IsTier}
-use Rattle.chains.specs.Chains.{follow, chain, nextOf}
-use Rattle.chains.proofs.Follow.{follow-none, follow-more}
-use Rattle.chains.proofs.Along.{AlongChain, chain-starts, chain-turns}
+use Rattle.chains.specs.Chains.{chain, nextOf}
+use Rattle.chains.proofs.Along.{AlongChain, chain-starts, chain-ends, chain-out, chain-splits, chain-in, chain-turns}
 use Rattle.placement.specs.declared.Run.the-variants.{At, Nowhere}
 use Rattle.placement.specs.Runs.{fromLowest, lowestRun, runIn, firstRun}
 
@@ -40,38 +39,50 @@ module _ (z : Shape) (full : ℕ → ℕ) (isClear : ℕ → ℕ → Bool) where
   unfolding firstRun
   first-next t ts n e = rw (firstRun, e)
 
-  -- ---- along a chain: the tiers that are left give the same
+  -- tiers that do not take it are passed over
+  first-passes : (done ts : List ℕ) (n : ℕ) → Every done (λ t. runIn z full isClear t n ≡ Nowhere)
+      → firstRun z full isClear (done ++ ts) n ≡ firstRun z full isClear ts n
+  first-passes [] ts n f = refl
+  first-passes (t ∷ done) ts n f =
+      first-next t (done ++ ts) n (f t (List·Memᴰ·head refl)) ∙ first-passes done ts n (λ u m. f u (List·Memᴰ·tail m))
+
+  -- ---- along a chain: none of the tiers that were met takes it
 
   module _ (img : List ℕ) (s n : ℕ) where
     pub record Seeking (most t k : ℕ) : Type 0 where
-      pub along : AlongChain z img (λ u. ℕ) s most t k
-      pub same : firstRun z full isClear (chain z img s) n ≡ firstRun z full isClear (follow z img (most - k) t) n
+      pub done : List ℕ
+      pub along : AlongChain z img s most done t k
+      pub nowhere : Every done (λ u. runIn z full isClear u n ≡ Nowhere)
 
-    pub seeking-starts : (most t : ℕ) → most ≡ tiers z → t ≡ s + 1 → Every (chain z img s) (IsTier z) → Seeking most t 0
-    unfolding chain
-    seeking-starts most t em et is =
-        let e : most - 0 ≡ tiers z = omega (arith, em) in
-        let e′ : t ≡ suc s = omega arith in
-        record { along = chain-starts z img (λ u. ℕ) s most t em et is; same = rw (e, e′) }
+    pub seeking-starts : {most t : ℕ} → most ≡ tiers z → t ≡ s + 1 → Seeking most t 0
+    seeking-starts em et =
+        record { done = []; along = chain-starts z img s em et; nowhere = every-none (λ u. runIn z full isClear u n ≡ Nowhere) }
 
     module _ {most t k : ℕ} (w : Seeking most t k) where
+      none-takes : w .done ≡ chain z img s → Nowhere ≡ firstRun z full isClear (chain z img s) n
+      none-takes e =
+          let all : chain z img s ≡ w .done ++ [] = sym e ∙ sym (append-nil (w .done)) in
+          sym (ap (λ (r : List ℕ). firstRun z full isClear r n) all ∙ first-passes (w .done) [] n (w .nowhere) ∙ first-none n)
+
       pub seeking-ends : t ≡ 0 → Nowhere ≡ firstRun z full isClear (chain z img s) n
-      seeking-ends e = sym (w .same ∙ rw (e, follow-none z img (most - k)) (first-none n))
+      seeking-ends e = none-takes (chain-ends z img s (w .along) e)
 
       pub seeking-out : most ≤ k → Nowhere ≡ firstRun z full isClear (chain z img s) n
-      unfolding follow
-      seeking-out h = let e : most - k ≡ 0 = omega arith in sym (w .same ∙ rw e (first-none n))
+      seeking-out h = none-takes (chain-out z img s (w .along) h)
 
       module _ (h : k < most) (ne : t ≢ 0) where
-        from-tier : firstRun z full isClear (chain z img s) n ≡ firstRun z full isClear (t ∷ follow z img (most - (k + 1)) (nextOf z img t)) n
-        from-tier = let e : most - k ≡ suc (most - (k + 1)) = omega arith in w .same ∙ rw (e, follow-more z img (most - (k + 1)) t ne)
+        pub seeking-tier : Every (chain z img s) (IsTier z) → IsTier z t
+        seeking-tier is = is t (chain-in z img s (w .along) h ne)
 
         pub seeking-found : (u c : ℕ) → runIn z full isClear t n ≡ At u c → At u c ≡ firstRun z full isClear (chain z img s) n
-        seeking-found u c f = sym (from-tier ∙ first-found t _ n u c f)
+        seeking-found u c f =
+            sym (ap (λ (r : List ℕ). firstRun z full isClear r n) (chain-splits z img s (w .along) h ne)
+            ∙ first-passes (w .done) _ n (w .nowhere) ∙ first-found t _ n u c f)
 
-        pub seeking-turns : (u : ℕ) → runIn z full isClear t n ≡ Nowhere → u ≡ nextOf z img t → Seeking most u (k + 1)
-        seeking-turns u f e =
+        pub seeking-turns : {u : ℕ} → runIn z full isClear t n ≡ Nowhere → u ≡ nextOf z img t → Seeking most u (k + 1)
+        seeking-turns f e =
             record {
-              along = chain-turns z img (λ v. ℕ) s (w .along) h ne 0 u e;
-              same = from-tier ∙ first-next t _ n f ∙ rw e;
+              done = w .done ++ (t ∷ []);
+              along = chain-turns z img s (w .along) h ne e;
+              nowhere = every-more (w .done) t (w .nowhere) f;
             }

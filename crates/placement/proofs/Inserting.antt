@@ -13,7 +13,7 @@ use Rattle.settings.specs.declared.Settings.{Settings}
 use Rattle.layout.specs.declared.Shape.{Shape}
 use Rattle.layout.specs.Places.{tier, slot, put, putMarks, chunkAt}
 use Rattle.layout.specs.Frame.{Image}
-use Rattle.probe.specs.Table.{Table, Empty, Good, total as Table·total}
+use Rattle.probe.specs.Table.{Table, Empty, Good, slotTotal}
 use Rattle.probe.specs.Search.{room}
 use Rattle.probe.proofs.Table.{Lawful}
 use Rattle.probe.proofs.Search.{room-empty}
@@ -23,7 +23,7 @@ use Rattle.entries.specs.Keys.{start, slotKey}
 use Rattle.entries.specs.Stored.{entryBytes, chunksFor}
 use Rattle.entries.specs.Live.{slotAt}
 use Rattle.search.specs.Search.{slotsOf}
-use Rattle.search.specs.Rules.{SomeEmpty, TierFits}
+use Rattle.search.specs.Rules.{SomeEmpty, TierSlotsFit}
 use Rattle.search.proofs.Slots.{slots-lawful}
 use Rattle.search.proofs.Landing.{good}
 use Rattle.placement.specs.Placement.{written, slotted}
@@ -39,8 +39,8 @@ one-or-full : (x : ℕ) → one-at 0 x + ifFull (λ v. 1) x ≡ 1
 unfolding one-at ifFull
 one-or-full x = by-test (eqb x 0) (λ e. rw (e, one-at, ifFull)) (λ e. rw (e, one-at, ifFull))
 
-empty-and-full : {M : Type 0} (𝓣 : Table M) (m : M) (n : ℕ) → Table·total 𝓣 (one-at 0) m n + Table·total 𝓣 (ifFull (λ v. 1)) m n ≡ n
-unfolding Table·total
+empty-and-full : {M : Type 0} (𝓣 : Table M) (m : M) (n : ℕ) → slotTotal 𝓣 (one-at 0) m n + slotTotal 𝓣 (ifFull (λ v. 1)) m n ≡ n
+unfolding slotTotal
 empty-and-full 𝓣 m zero = refl
 empty-and-full 𝓣 m (suc n) = omega (arith, one-or-full (𝓣 .get m n), empty-and-full 𝓣 m n)
 
@@ -88,7 +88,7 @@ module _ {z : Shape} {img but : List ℕ} {s t c : ℕ} {key value : List ℕ} (
   law : Lawful (slotsOf z t)
   law = slots-lawful (image p .framed) t (is-tier p)
 
-  pub was-fitting : TierFits z img s t
+  pub was-fitting : TierSlotsFit z img s t
   was-fitting = p .sound .fits .entries .tiersFit s (p .segmentIn) t (p .tierIn)
 
   same : (j : ℕ) → j < slots → slotAt z m t j ≡ slotAt z img t j
@@ -106,7 +106,7 @@ module _ {z : Shape} {img but : List ℕ} {s t c : ℕ} {key value : List ℕ} (
   -- ---- the slot that is filled is one
 
   there : Empty (slotsOf z t) m r
-  there = room-empty (slotsOf z t) law m _ e (law .home-lt v) em
+  there = room-empty (slotsOf z t) law m _ e (law .start-lt v) em
 
   pub place-in : place z img t c key value < slots
   place-in = there .lt
@@ -146,7 +146,7 @@ module _ {z : Shape} {img but : List ℕ} {s t c : ℕ} {key value : List ℕ} (
   -- ---- a sum over the tier's full slots grows by what the new number adds
 
   pub after-total : (f f′ : ℕ → ℕ) → Below slots (λ j. slotAt z img t j ≢ 0 → f′ (slotAt z img t j) ≡ f (slotAt z img t j))
-      → Table·total (slotsOf z t) (ifFull f′) (after z img t c key value) slots ≡ Table·total (slotsOf z t) (ifFull f) img slots + f′ (numberFor z key c)
+      → slotTotal (slotsOf z t) (ifFull f′) (after z img t c key value) slots ≡ slotTotal (slotsOf z t) (ifFull f) img slots + f′ (numberFor z key c)
   unfolding filled law slots-lawful
   after-total f f′ g =
       omega (

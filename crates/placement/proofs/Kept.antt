@@ -16,8 +16,8 @@ use Rattle.settings.specs.declared.Settings.{Settings}
 use Rattle.layout.specs.declared.Shape.{Shape}
 use Rattle.layout.specs.Places.{chunkAt}
 use Rattle.layout.proofs.Chunks.{chunk-at, chunk-inside}
-use Rattle.probe.specs.Table.{total as Table·total}
-use Rattle.probe.proofs.Table.{total-has}
+use Rattle.probe.specs.Table.{slotTotal}
+use Rattle.probe.proofs.Table.{slotTotal-has}
 use Rattle.entries.specs.declared.Entry.{Entry}
 use Rattle.entries.specs.declared.Stored.{Stored}
 use Rattle.entries.specs.declared.Stored.the-variants.{Whole, Broken}
@@ -60,7 +60,7 @@ coversOf z img t i v =
 
 -- how many entries of tier t cover chunk i, as a sum over its slots
 pub covered-total : (z : Shape) (img : List ℕ) (s t i : ℕ)
-    → howMany (liveIn z img s t) (covers i) ≡ Table·total (slotsOf z t) (ifFull (coversOf z img t i)) img (z .settings .slots)
+    → howMany (liveIn z img s t) (covers i) ≡ slotTotal (slotsOf z t) (ifFull (coversOf z img t i)) img (z .settings .slots)
 unfolding within liveAt entryAt
 covered-total z img s t i =
     howMany-total (liveIn z img s t) (covers i)
@@ -129,7 +129,7 @@ module _ {z : Shape} {img but : List ℕ} {s t c : ℕ} {key value : List ℕ} (
         p .clearRun i lo hi,
         p .sound .fits .chunks .marks s (p .segmentIn) t (p .tierIn) i (omega (arith, p .rangeEnds)),
         covered-total z img s t i,
-        total-has (slotsOf z t) (ifFull (coversOf z img t i)) img slots k hk,
+        slotTotal-has (slotsOf z t) (ifFull (coversOf z img t i)) img slots k hk,
         full-is (coversOf z img t i) v fk,
         within-in d l i lo′ hi′,
       )

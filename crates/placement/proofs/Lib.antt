@@ -3,6 +3,7 @@ pub mod OldEntry
 pub mod LowestRun
 pub mod FirstRun
 pub mod Running
+pub mod Written
 pub mod Before
 pub mod Writing
 pub mod Filling
@@ -11,5 +12,3 @@ pub mod Kept
 pub mod Refilled
 pub mod Placing
 pub mod Copying
-pub mod Rooms
-pub mod Written

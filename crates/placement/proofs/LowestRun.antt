@@ -8,7 +8,7 @@ use native.Mathlib.Omega.{arith}
 use native.Mathlib.Nat.{zero-add}
 use Rattle.lists.specs.Cases.{same-or, lt-or}
 use Rattle.lists.specs.Lists.{below, first}
-use Rattle.lists.proofs.Rows.{first-at, first-none}
+use Rattle.lists.proofs.Rows.{first-span-at, first-span-none}
 use Rattle.layout.specs.declared.Shape.{Shape}
 use Rattle.placement.specs.declared.Run.the-variants.{At, Nowhere}
 use Rattle.placement.specs.Runs.{clearFrom, lowestRun, fromLowest}
@@ -60,7 +60,7 @@ module _ (z : Shape) (full : ℕ → ℕ) (isClear : ℕ → ℕ → Bool) (t : 
       unfolding lowestRun fromLowest
       running-ends h =
           let g : first (below (suc (z .settings .chunks) - n)) (λ c. clearFrom z full isClear t c n) ≡ none =
-          first-none (λ c. clearFrom z full isClear t c n) 0 (suc (z .settings .chunks) - n)
+          first-span-none (λ c. clearFrom z full isClear t c n) 0 (suc (z .settings .chunks) - n)
           (λ c l. rw zero-add (w .none-before c (omega (arith, w .low, w .fewer)))) in
           rw g
 
@@ -103,7 +103,7 @@ module _ (z : Shape) (full : ℕ → ℕ) (isClear : ℕ → ℕ → Bool) (t : 
               let k : ℕ = i + 1 - n in
               let ek : k + n ≡ i + 1 = omega (arith, w .within) in
               let g : first (below (suc (z .settings .chunks) - n)) (λ c. clearFrom z full isClear t c n) ≡ some (0 + k) =
-              first-at (λ c. clearFrom z full isClear t c n) 0 (suc (z .settings .chunks) - n) k (omega arith)
+              first-span-at (λ c. clearFrom z full isClear t c n) 0 (suc (z .settings .chunks) - n) k (omega arith)
               (λ c l. rw zero-add (w .none-before c (omega arith)))
               (rw zero-add (clear-from n k (λ m a b. more-held m (omega arith) (omega arith)))) in
               rw (g, zero-add)

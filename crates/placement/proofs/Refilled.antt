@@ -18,13 +18,13 @@ use Rattle.entries.specs.Keys.{slotChunk}
 use Rattle.entries.specs.Stored.{entryBytes, chunksFor, stored, entryOf, keyOf, valueOf}
 use Rattle.entries.specs.Live.{slotAt, chunkOf, entryAt, liveIn}
 use Rattle.entries.proofs.Whole.{entryHere, stored-whole}
-use Rattle.search.specs.Rules.{Hashed, keyAt, EntryFits, TierFits}
+use Rattle.search.specs.Rules.{Hashed, keyAt, EntryFits, TierSlotsFit}
 use Rattle.search.proofs.Fitting.{entry-right}
 use Rattle.chunks.specs.Chunks.{covers}
 use Rattle.upkeep.specs.Sound.{Pair}
 use Rattle.upkeep.proofs.Values.{entryFor, pairFor}
 use Rattle.upkeep.proofs.Replaced.{TierAgain}
-use Rattle.placement.proofs.Before.{numberFor, Places, entry-inside, number-fits, number-key, number-chunk, number-rest}
+use Rattle.placement.proofs.Before.{numberFor, Places, number-fits, number-key, number-chunk, number-rest, entry-in-chunks}
 use Rattle.placement.proofs.Filling.{slot-new, slot-old, mark-in, mark-out, bytes-new}
 use Rattle.placement.proofs.Inserting.{place, after, writes, place-in, after-good, after-empty, after-total}
 use Rattle.placement.proofs.Kept.{within, within-in, within-out, coversOf, covered-total, was-entry, was-stored, stored-kept, entry-kept, pair-kept}
@@ -57,7 +57,7 @@ module _ {z : Shape} {img but : List ℕ} {s t c : ℕ} {key value : List ℕ} (
   whole =
       stored-whole z m′ t c key value (omega (arith, p .keyLong)) (p .valueLong)
       (bytes-new z img t c n (entryBytes settings key value) (writes p) r v (place-in p))
-      (entry-inside p)
+      (entry-in-chunks p)
 
   stored-here : stored z m′ t (slotChunk settings v) ≡ Whole made
   stored-here = ap (stored z m′ t) (number-chunk p) ∙ whole .0
@@ -107,7 +107,7 @@ module _ {z : Shape} {img but : List ℕ} {s t c : ℕ} {key value : List ℕ} (
 
   -- ---- the rules of slots and entries
 
-  fits-after : TierFits z m′ s t
+  fits-after : TierSlotsFit z m′ s t
   fits-after =
       record {
         slotsFit =

@@ -1,8 +1,9 @@
 -- An entry placed step by step: what each step asks, and what the steps give together.
-use Prim.Native.Nat.{ℕ, _+_, _≤_, _<_}
+use Prim.Native.Nat.{ℕ, _+_, _≤_, _<_, _-_, _*_}
 use mathlib.Core.List.{List}
-use mathlib.Core.Path.{_≡_, ap, ap₂, _∙_}
+use mathlib.Core.Path.{_≡_, ap, ap₂, _∙_, sym}
 use native.Mathlib.Omega.{arith}
+use native.Mathlib.Nat.{mul-le-mul-right}
 use lib.ListN.{length}
 use lib.Seq.{sets}
 use Rattle.settings.specs.declared.Settings.{Settings}
@@ -11,56 +12,121 @@ use Rattle.layout.specs.declared.Shape.{Shape}
 use Rattle.layout.specs.Tiers.{IsTier}
 use Rattle.layout.specs.Places.{put, tier, slot, putMarks, chunkAt}
 use Rattle.layout.specs.Frame.{Framed}
-use Rattle.layout.proofs.Chunks.{chunk-add, chunk-inside, chunks-inside}
-use Rattle.probe.specs.Search.{room}
-use Rattle.entries.specs.Keys.{lookupOfHash, lookupKey, start, slotWith}
+use Rattle.layout.proofs.Places.{by-kind}
+use Rattle.layout.proofs.Marks.{get-putMarks-other}
+use Rattle.layout.proofs.Chunks.{chunk-add, chunk-inside, chunks-inside, get-sets-other}
+use Rattle.probe.proofs.Search.{room-lt, room-same}
+use Rattle.entries.specs.Keys.{lookupOfHash, lookupKey, slotWith}
 use Rattle.entries.specs.Stored.{entryBytes, chunksFor}
+use Rattle.entries.specs.Live.{slotAt}
+use Rattle.entries.proofs.Hashes.{start-lt}
 use Rattle.entries.proofs.Sizes.{chunks-pos, chunks-enough, length-entry}
-use Rattle.search.specs.Search.{slotsOf}
-use Rattle.placement.specs.Placement.{written, slotted, placeAt}
+use Rattle.search.specs.declared.Sought.{Sought}
+use Rattle.search.specs.declared.Sought.the-variants.{Holds, Empty}
+use Rattle.search.specs.Search.{slotsOf, soughtIn}
+use Rattle.search.proofs.Finding.{sought-absent}
+use Rattle.placement.specs.Placement.{written, slotted, placeAt, firstEmpty}
+use Rattle.placement.specs.Asking.{CanWrite, NewKey}
 
-module _ {z : Shape} {len : ℕ} (fr : Framed z len) (t c : ℕ) (key value : List ℕ) (hk : length key ≤ 1024) (hv : length value ≤ 65535)
-    (room : c + chunksFor (z .settings) (length key) (length value) ≤ z .settings .chunks) where
+-- ---- the slot for a new key
+
+-- the lookup key, from the hash
+pub lookup-made : (st : Settings) (key : List ℕ) {h lookup : ℕ} → h ≡ xxh64 key → lookup ≡ lookupOfHash st h → lookup ≡ lookupKey st key
+unfolding lookupKey
+lookup-made st key eh el = el ∙ ap (lookupOfHash st) eh
+
+pub firstEmpty-lt : {z : Shape} {len : ℕ} → Framed z len → (img : List ℕ) (t : ℕ) (key : List ℕ) → firstEmpty z img t key < z .settings .slots
+firstEmpty-lt {z} fr img t key = room-lt (slotsOf z t) _ (start-lt (fr .valid) (lookupKey (z .settings) key)) img
+
+module _ (z : Shape) (img key : List ℕ) (lookup t : ℕ) (new : NewKey z img key lookup t) where
+  sought-new : soughtIn z img key t ≡ Empty (firstEmpty z img t key)
+  sought-new = sought-absent z img (new .seeks .tier .framed) key t (new .seeks .tier .tierIn) (new .takes .someEmpty) (new .takes .lacks)
+
+  module _ (r : Sought) (e : r ≡ soughtIn z img key t) (j : ℕ) where
+    -- the search ends at the first empty slot, and at no other kind
+    pub new-empty : r ≡ Empty j → j ≡ firstEmpty z img t key
+    new-empty q = let f : Empty j ≡ Empty (firstEmpty z img t key) = sym q ∙ e ∙ sought-new in cc
+
+    pub new-holds : r ≡ Holds j → j ≡ firstEmpty z img t key
+    new-holds q =
+        let f : Holds j ≡ Empty (firstEmpty z img t key) = sym q ∙ e ∙ sought-new in
+        absurd (let never : _≡_ {A = ℕ} 0 1 = cc in omega arith)
+
+-- ---- the run
+
+-- the slots of tier t, with a run marked and bytes written into it
+pub slot-wrote : {z : Shape} {len : ℕ} → Framed z len → (img : List ℕ) (t c n : ℕ) (bs : List ℕ) → IsTier z t → c + n ≤ z .settings .chunks
+    → length bs ≤ (z .settings .chunks - c) * z .settings .chunkSize → (j : ℕ) → j < z .settings .slots
+    → slotAt z (sets (putMarks z img t c n 1) (chunkAt z t c) bs) t j ≡ slotAt z img t j
+slot-wrote {z} fr img t c n bs it ends room j h =
+    get-sets-other fr (putMarks z img t c n 1) t c bs (tier t (slot j)) it (omega arith) room (it, h) (λ i. by-kind (omega arith))
+    ∙ get-putMarks-other fr img t c n 1 (tier t (slot j)) it ends (it, h) (λ b. by-kind (omega arith))
+
+module _ {z : Shape} {img : List ℕ} {t c : ℕ} {key value : List ℕ} (w : CanWrite z img t c key value) where
   open Shape z using (settings)
-  open Settings settings using (chunks, chunkSize)
+  open Settings settings using (slots, chunks, chunkSize)
+
+  abbrev n : ℕ
+  n = chunksFor settings (length key) (length value)
+
+  abbrev framed : Framed z (length img)
+  framed = w .tier .framed
+
+  pub some-chunks : 0 < chunksFor settings (length key) (length value)
+  some-chunks = chunks-pos settings (length key) (length value) (omega (arith, w .keyLong)) (w .valueLong) (framed .valid)
 
   pub chunk-lt : c < chunks
-  chunk-lt = omega (arith, chunks-pos settings (length key) (length value) (omega arith) hv (fr .valid))
+  chunk-lt = omega (arith, some-chunks, w .rangeEnds)
 
-  -- the entry ends within its chunks, and so within the image
-  pub entry-inside : IsTier z t → chunkAt z t c + length (entryBytes settings key value) ≤ len
-  entry-inside it =
-      let n : ℕ = chunksFor settings (length key) (length value) in
+  -- the entry ends within its chunks, and so within the tier's and within the image
+  pub entry-fits : length (entryBytes settings key value) ≤ chunksFor settings (length key) (length value) * chunkSize
+  entry-fits =
       omega (
         arith,
         length-entry settings key value,
-        chunks-enough settings (length key) (length value) (omega arith) hv (fr .valid),
-        chunk-add z t c n,
-        chunk-inside z t (c + n) room,
-        chunks-inside fr t it,
-        fr .within,
+        chunks-enough settings (length key) (length value) (omega (arith, w .keyLong)) (w .valueLong) (framed .valid),
       )
 
-module _ (z : Shape) (img : List ℕ) (t c : ℕ) (key : List ℕ) where
+  pub entry-room : length (entryBytes settings key value) ≤ (chunks - c) * chunkSize
+  entry-room =
+      let h : n ≤ chunks - c = omega (arith, w .rangeEnds) in
+      omega (arith, entry-fits, mul-le-mul-right chunkSize h)
+
+  pub written-inside : chunkAt z t c + length (entryBytes settings key value) ≤ length img
+  written-inside =
+      omega (
+        arith,
+        entry-fits,
+        chunk-add z t c n,
+        chunk-inside z t (c + n) (w .rangeEnds),
+        chunks-inside framed t (w .tier .tierIn),
+        framed .within,
+      )
+
+  -- writing it moves no slot, and so not the first empty one
+  pub firstEmpty-written : firstEmpty z (written z img t c key value) t key ≡ firstEmpty z img t key
+  unfolding written
+  firstEmpty-written =
+      room-same (slotsOf z t) _ (start-lt (framed .valid) (lookupKey settings key)) _ img
+      (slot-wrote framed img t c n (entryBytes settings key value) (w .tier .tierIn) (w .rangeEnds) entry-room)
+
+-- ---- the steps
+
+module _ (z : Shape) (img : List ℕ) (t c : ℕ) (key value : List ℕ) where
   open Shape z using (settings)
 
-  pub written-is : (value : List ℕ) {n at : ℕ} {one two : List ℕ} → n ≡ chunksFor settings (length key) (length value) → one ≡ putMarks z img t c n 1
+  pub written-is : {n at : ℕ} {one two : List ℕ} → n ≡ chunksFor settings (length key) (length value) → one ≡ putMarks z img t c n 1
       → at ≡ chunkAt z t c → two ≡ sets one at (entryBytes settings key value) → two ≡ written z img t c key value
   unfolding written
-  written-is value en e₁ ea e₂ =
+  written-is en e₁ ea e₂ =
       e₂ ∙ ap₂ (λ (x : List ℕ) (k : ℕ). sets x k (entryBytes settings key value)) (e₁ ∙ ap (λ (m : ℕ). putMarks z img t c m 1) en) ea
 
-  pub slotted-is : {h lookup j v : ℕ} {one : List ℕ} → h ≡ xxh64 key → lookup ≡ lookupOfHash settings h
-      → j ≡ room (slotsOf z t) img (start settings lookup) → v ≡ slotWith settings lookup c → one ≡ put z img (tier t (slot j)) v
-      → one ≡ slotted z img t c key
-  unfolding slotted lookupKey
-  slotted-is {h} {lookup} {j} {v} eh el ej ev e =
-      let l : lookup ≡ lookupKey settings key = el ∙ ap (lookupOfHash settings) eh in
-      e ∙
-      ap₂ (λ (k w : ℕ). put z img (tier t (slot k)) w) (ej ∙ ap (λ (x : ℕ). room (slotsOf z t) img (start settings x)) l)
-      (ev ∙ ap (λ (x : ℕ). slotWith settings x c) l)
-
-  pub placed-is : (value : List ℕ) {one two : List ℕ} → one ≡ written z img t c key value → two ≡ slotted z one t c key
-      → two ≡ placeAt z img t c key value
-  unfolding placeAt
-  placed-is value e₁ e₂ = e₂ ∙ ap (λ (x : List ℕ). slotted z x t c key) e₁
+  pub placed-is : {lookup j v : ℕ} {one two : List ℕ} → CanWrite z img t c key value → lookup ≡ lookupKey settings key
+      → j ≡ firstEmpty z img t key → one ≡ written z img t c key value → v ≡ slotWith settings lookup c
+      → two ≡ put z one (tier t (slot j)) v → two ≡ placeAt z img t c key value
+  unfolding placeAt slotted
+  placed-is {lookup} {j} {v} {one} w el ej e₁ ev e₂ =
+      let slot-is : j ≡ firstEmpty z (written z img t c key value) t key = ej ∙ sym (firstEmpty-written w) in
+      let number-is : v ≡ slotWith settings (lookupKey settings key) c = ev ∙ ap (λ (x : ℕ). slotWith settings x c) el in
+      e₂ ∙ ap (λ (x : List ℕ). put z x (tier t (slot j)) v) e₁
+      ∙ ap₂ (λ (k x : ℕ). put z (written z img t c key value) (tier t (slot k)) x) slot-is number-is

@@ -1,38 +1,25 @@
 // An entry placed: its chunks are marked, its bytes written there, the first empty slot from its start slot filled.
 use layout::Shape;
-use probe::Cursor;
+use search::Sought;
 use settings::Settings;
 ghost use mathlib.Core.Path.{_≡_};
-ghost use Prim.Native.Nat.{_+_, _<_, _≤_};
+ghost use Prim.Native.Nat.{_+_, _≤_};
 ghost use lib.ListN.{length};
 ghost use lib.Seq.{sets};
-ghost use Rattle.layout.specs.Tiers.{IsTier};
-ghost use Rattle.layout.specs.Frame.{Framed};
-ghost use Rattle.probe.specs.Search.{room as Search·room};
-ghost use Rattle.entries.specs.Keys.{start};
-ghost use Rattle.entries.specs.Stored.{entryBytes, chunksFor};
-ghost use Rattle.search.specs.Search.{slotsOf};
-ghost use Rattle.placement.specs.Placement.{written, slotted, placeAt};
+ghost use Rattle.entries.specs.Stored.{entryBytes};
+ghost use Rattle.placement.specs.Placement.{written, placeAt, firstEmpty};
+ghost use Rattle.placement.specs.Asking.{CanWrite, NewKey, CanPlace};
 
-// The first empty slot of a tier, from the start slot of a lookup key on.
-fn room(z: Shape, img: &[u8], t: usize, lookup: u64) -> usize
-    requires { ⌜ Framed z (length (now img)) × IsTier z t ⌝ }
-    ensures { λ r. ⌜ (r ≡ Search·room (slotsOf z t) (now (img .entry)) (start (z .settings) lookup)) × (r < z .settings .slots) ⌝ }
+// The slot for a new key: the empty slot that ends the search for it.
+fn slot_for(z: Shape, img: &[u8], key: &[u8], lookup: u64, t: usize) -> usize
+    requires { ⌜ NewKey z (now img) (now key) lookup t ⌝ }
+    ensures { λ r. ⌜ r ≡ firstEmpty z (now (img .entry)) t (now (key .entry)) ⌝ }
 {
-    let st = z.settings;
-    let mut cursor = Cursor {
-        slot: entries::keys::start(st, lookup),
-        slots: st.slots,
-    };
-    let mut left = st.slots;
-    while 0 < left {
-        if layout::read::slot(z, img, t, cursor.slot) == 0 {
-            return cursor.slot;
-        }
-        cursor = cursor.step();
-        left -= 1;
+    match search::seek(z, img, key, lookup, t) {
+        Sought::Empty(j) => j,
+        // never: the key is new
+        Sought::Holds(j) => j,
     }
-    cursor.slot
 }
 
 // Writes bytes at an offset.
@@ -60,31 +47,24 @@ fn write_entry(st: Settings, img: &mut [u8], at: usize, key: &[u8], value: &[u8]
 
 // Marks the chunks of an entry from c on, and writes it there.
 fn write_at(z: Shape, img: &mut [u8], t: usize, c: usize, key: &[u8], value: &[u8])
-    requires { ⌜ Framed z (length (now img)) × IsTier z t × (length (now key) ≤ 1024) × (length (now value) ≤ 65535) × (c + chunksFor (z .settings) (length (now key)) (length (now value)) ≤ z .settings .chunks) ⌝ }
+    requires { ⌜ CanWrite z (now img) t c (now key) (now value) ⌝ }
     ensures { λ r. ⌜ now (img .exit) ≡ written z (now (img .entry)) t c (now (key .entry)) (now (value .entry)) ⌝ }
 {
     let n = entries::chunks_for(z.settings, key.len(), value.len());
-    layout::write::set_marks(z, img, t, c, n);
+    layout::write::put_marks(z, img, t, c, n, 1);
     let at = layout::chunk_at(z, t, c);
     write_entry(z.settings, img, at, key, value);
 }
 
-// Fills the slot of a key whose entry starts at chunk c.
-fn fill_slot(z: Shape, img: &mut [u8], t: usize, c: usize, key: &[u8])
-    requires { ⌜ Framed z (length (now img)) × IsTier z t × (c < z .settings .chunks) ⌝ }
-    ensures { λ r. ⌜ now (img .exit) ≡ slotted z (now (img .entry)) t c (now (key .entry)) ⌝ }
-{
-    let lookup = entries::keys::lookup_of_hash(z.settings, xxh64::xxh64(key));
-    let j = room(z, img, t, lookup);
-    let v = entries::keys::slot_with(z.settings, lookup, c);
-    layout::write::put_slot(z, img, t, j, v);
-}
-
 // Places an entry in tier t, in the chunks from c on.
 pub fn place_at(z: Shape, img: &mut [u8], t: usize, c: usize, key: &[u8], value: &[u8])
-    requires { ⌜ Framed z (length (now img)) × IsTier z t × (length (now key) ≤ 1024) × (length (now value) ≤ 65535) × (c + chunksFor (z .settings) (length (now key)) (length (now value)) ≤ z .settings .chunks) ⌝ }
+    requires { ⌜ CanPlace z (now img) t c (now key) (now value) ⌝ }
     ensures { λ r. ⌜ now (img .exit) ≡ placeAt z (now (img .entry)) t c (now (key .entry)) (now (value .entry)) ⌝ }
 {
+    let lookup = entries::keys::lookup_of_hash(z.settings, xxh64::xxh64(key));
+    // before the write: until then every stored key reads as it did
+    let j = slot_for(z, img, key, lookup, t);
     write_at(z, img, t, c, key, value);
-    fill_slot(z, img, t, c, key);
+    let v = entries::keys::slot_with(z.settings, lookup, c);
+    layout::write::put_slot(z, img, t, j, v);
 }

@@ -7,9 +7,9 @@ use native.Mathlib.Omega.{arith}
 use lib.Dec.{eqb}
 use borrow.Author.Tests.{eq-eqb, ne-eqb}
 use Rattle.lists.specs.Cases.{same-or}
-use Rattle.probe.specs.Table.{Table, Empty, total}
+use Rattle.probe.specs.Table.{Table, Empty, slotTotal}
 use Rattle.probe.specs.Search.{room}
-use Rattle.probe.proofs.Table.{Lawful, total-found}
+use Rattle.probe.proofs.Table.{Lawful, slotTotal-found}
 use Rattle.probe.proofs.Insertion.{insert-totals}
 use Rattle.probe.proofs.Removal.{Removed}
 
@@ -29,7 +29,7 @@ pub one-at-pos : (w x : ℕ) → 0 < one-at w x → x ≡ w
 one-at-pos w x l = ⊎-elim (λ q. q) (λ q. absurd (omega (arith, one-at-other w x q))) (same-or x w)
 
 module _ {M : Type 0} (𝓣 : Table M) where
-  open Table 𝓣 using (size, home, get, put)
+  open Table 𝓣 using (size, start, get, put)
 
   -- the table has the number w
   pub record Has (m : M) (w : ℕ) : Type 0 where
@@ -39,11 +39,11 @@ module _ {M : Type 0} (𝓣 : Table M) where
 
   -- how often it has it
   unfoldable pub count : M → ℕ → ℕ
-  count m w = total 𝓣 (one-at w) m size
+  count m w = slotTotal 𝓣 (one-at w) m size
 
   pub count-has : (m : M) (w : ℕ) → 0 < count m w → Has m w
   unfolding count
-  count-has m w l = let r : _ = total-found 𝓣 (one-at w) m size l in record { slot = r .0; lt = r .1; is = one-at-pos w _ (r .2) }
+  count-has m w l = let r : _ = slotTotal-found 𝓣 (one-at w) m size l in record { slot = r .0; lt = r .1; is = one-at-pos w _ (r .2) }
 
   module _ (law : Lawful 𝓣) (m m′ : M) (h : ℕ) (r : Removed 𝓣 law m h m′) where
     pub removed-empty : get m h ≢ 0 → (e : ℕ) × Empty 𝓣 m′ e
@@ -55,7 +55,7 @@ module _ {M : Type 0} (𝓣 : Table M) where
 
   module _ (law : Lawful 𝓣) (m : M) (v e : ℕ) (ok : law .Ok m) (fit : law .Fit v) (nz : v ≢ 0) (em : Empty 𝓣 m e) where
     abbrev new : M
-    new = put m (room 𝓣 m (home v)) v
+    new = put m (room 𝓣 m (start v)) v
 
     -- with two empty slots before, one is left
     pub inserted-empty : 1 < count m 0 → (e : ℕ) × Empty 𝓣 new e

@@ -6,26 +6,26 @@ use native.Mathlib.Omega.{arith}
 use borrow.Author.Tests.{eqb-false}
 use Rattle.lists.specs.Cases.{same-or}
 use Rattle.probe.specs.Ring.{dist}
-use Rattle.probe.specs.Table.{Table, Empty, Good, total}
+use Rattle.probe.specs.Table.{Table, Empty, Good, slotTotal}
 use Rattle.probe.specs.Search.{room}
 use Rattle.probe.proofs.Ring.{dist-inj}
-use Rattle.probe.proofs.Table.{Lawful, total-put}
+use Rattle.probe.proofs.Table.{Lawful, slotTotal-put}
 use Rattle.probe.proofs.Search.{room-first, room-empty}
 
 module _ {M : Type 0} (𝓣 : Table M) (law : Lawful 𝓣) (m : M) (v e : ℕ) (ok : law .Ok m) (fit : law .Fit v) (nz : v ≢ 0) (em : Empty 𝓣 m e) where
-  open Table 𝓣 using (size, home, get, put)
-  open Lawful law using (home-lt, same, other)
+  open Table 𝓣 using (size, start, get, put)
+  open Lawful law using (start-lt, same, other)
 
   abbrev r : ℕ
-  r = room 𝓣 m (home v)
+  r = room 𝓣 m (start v)
 
   free : Empty 𝓣 m r
-  free = room-empty 𝓣 law m (home v) e (home-lt v) em
+  free = room-empty 𝓣 law m (start v) e (start-lt v) em
 
-  pub insert-totals : (f : ℕ → ℕ) → total 𝓣 f (put m (room 𝓣 m (home v)) v) size + f 0 ≡ total 𝓣 f m size + f v
-  insert-totals f = omega (arith, total-put 𝓣 law f m r v ok fit (free .lt), ap f (free .free))
+  pub insert-totals : (f : ℕ → ℕ) → slotTotal 𝓣 f (put m (room 𝓣 m (start v)) v) size + f 0 ≡ slotTotal 𝓣 f m size + f v
+  insert-totals f = omega (arith, slotTotal-put 𝓣 law f m r v ok fit (free .lt), ap f (free .free))
 
-  pub insert-good : Good 𝓣 m → Good 𝓣 (put m (room 𝓣 m (home v)) v)
+  pub insert-good : Good 𝓣 m → Good 𝓣 (put m (room 𝓣 m (start v)) v)
   insert-good good j k hj hk fj on = ⊎-elim (λ (q : j ≡ r). new q) old (same-or j r)
     where
       at-r : get (put m r v) r ≡ v
@@ -36,12 +36,12 @@ module _ {M : Type 0} (𝓣 : Table M) (law : Lawful 𝓣) (m : M) (v e : ℕ) (
 
       new : j ≡ r → get (put m r v) k ≢ 0
       new q =
-          let on-r : dist size (home v) k ≤ dist size (home v) r = rw (q, at-r) at on in
+          let on-r : dist size (start v) k ≤ dist size (start v) r = rw (q, at-r) at on in
           ⊎-elim
           (λ (p : k ≡ r). rw (p, at-r) nz)
           (λ p.
-          let d : dist size (home v) k ≢ dist size (home v) r = λ u. p (dist-inj size (home-lt v) hk (free .lt) u) in
-          full (eqb-false _ _ (room-first 𝓣 law m (home v) e (home-lt v) em .before k hk (omega arith))))
+          let d : dist size (start v) k ≢ dist size (start v) r = λ u. p (dist-inj size (start-lt v) hk (free .lt) u) in
+          full (eqb-false _ _ (room-first 𝓣 law m (start v) e (start-lt v) em .before k hk (omega arith))))
           (same-or k r)
 
       old : j ≢ r → get (put m r v) k ≢ 0

@@ -8,28 +8,28 @@ use lib.Dec.{ltb}
 use borrow.Author.Tests.{ltb-true, ltb-false, lt-ltb, le-ltb, le-leb, lt-leb, eqb-true, eqb-false, eq-eqb, ne-eqb}
 use Rattle.lists.specs.Cases.{by-test, lt-or}
 use Rattle.probe.specs.Ring.{next, dist}
-use Rattle.probe.specs.Table.{Table, empty, Empty, Good, total}
+use Rattle.probe.specs.Table.{Table, empty, Empty, Good, slotTotal}
 use Rattle.probe.specs.Removal.{stays, shift, remove}
 use Rattle.probe.proofs.Ring.{next-lt, dist-pos, after-hole}
-use Rattle.probe.proofs.Table.{Lawful, total-put}
+use Rattle.probe.proofs.Table.{Lawful, slotTotal-put}
 use Rattle.probe.proofs.Shifting.{Shifting, starts, finishes, passes, moves}
 
 module _ {M : Type 0} (𝓣 : Table M) where
-  open Table 𝓣 using (size, home, get, put)
+  open Table 𝓣 using (size, start, get, put)
 
   -- the test as one comparison
-  pub stays-is : (m : M) (h i : ℕ) → h < size → i < size → home (get m i) < size → stays 𝓣 m h i ≡ ltb (dist size (home (get m i)) i) (dist size h i)
+  pub stays-is : (m : M) (h i : ℕ) → h < size → i < size → start (get m i) < size → stays 𝓣 m h i ≡ ltb (dist size (start (get m i)) i) (dist size h i)
   unfolding stays
   stays-is m h i hh hi hx =
       ⊎-elim
       (λ l. let p : _ = after-hole size hh hx hi .1 l in ap₂ _&&_ (lt-ltb 0 d (p .0)) (le-leb d (dist size h i) (p .1)) ∙ sym (lt-ltb _ _ l))
       (λ l. ⊎-elim (λ p. rw (lt-ltb 0 d p, lt-leb _ _ (beyond p l)) (sym (le-ltb _ _ l))) (λ p. rw (le-ltb 0 d p) (sym (le-ltb _ _ l))) (lt-or 0 d))
-      (lt-or (dist size (home (get m i)) i) (dist size h i))
+      (lt-or (dist size (start (get m i)) i) (dist size h i))
     where
       d : ℕ
-      d = dist size h (home (get m i))
+      d = dist size h (start (get m i))
 
-      beyond : 0 < d → dist size h i ≤ dist size (home (get m i)) i → dist size h i < d
+      beyond : 0 < d → dist size h i ≤ dist size (start (get m i)) i → dist size h i < d
       beyond p l = ⊎-elim (λ q. q) (λ q. absurd (omega (arith, after-hole size hh hx hi .0 (p, q)))) (lt-or (dist size h i) d)
 
   -- the steps of a removal, for a loop that has n steps left
@@ -54,21 +54,21 @@ module _ {M : Type 0} (𝓣 : Table M) where
   shift-moves n n′ m h i e full t = rw (e, ne-eqb _ _ full, t, shift)
 
 module _ {M : Type 0} (𝓣 : Table M) (law : Lawful 𝓣) where
-  open Table 𝓣 using (size, home, get, put)
-  open Lawful law using (Ok, Fit, home-lt, fit-zero, fit-get, ok-put, other)
+  open Table 𝓣 using (size, start, get, put)
+  open Lawful law using (Ok, Fit, start-lt, fit-zero, fit-get, ok-put, other)
 
   -- m′ is m without the number in h: good, and every sum over the slots has 0 in that number's place
   pub record Removed (m : M) (h : ℕ) (m′ : M) : Type 0 where
     pub ok : Ok m′
     pub good : Good 𝓣 m′
-    pub totals : (f : ℕ → ℕ) → total 𝓣 f m′ size + f (get m h) ≡ total 𝓣 f m size + f 0
+    pub totals : (f : ℕ → ℕ) → slotTotal 𝓣 f m′ size + f (get m h) ≡ slotTotal 𝓣 f m size + f 0
 
   emptied : {n : ℕ} {m : M} {h i : ℕ} → Shifting 𝓣 law n m h i → get m i ≡ 0 → Removed m h (put m h 0)
   emptied {n} {m} {h} {i} s z =
       record {
         ok = ok-put m h 0 (s .ok) (s .h-lt) fit-zero;
         good = finishes 𝓣 law s z;
-        totals = λ f. total-put 𝓣 law f m h 0 (s .ok) fit-zero (s .h-lt);
+        totals = λ f. slotTotal-put 𝓣 law f m h 0 (s .ok) fit-zero (s .h-lt);
       }
 
   -- a removal at the new hole removes what was in the old one
@@ -78,7 +78,7 @@ module _ {M : Type 0} (𝓣 : Table M) (law : Lawful 𝓣) where
       record {
         ok = r .ok;
         good = r .good;
-        totals = λ f. omega (arith, r .totals f, ap f eq, total-put 𝓣 law f m h (get m i) (s .ok) (fit-get m i (s .ok)) (s .h-lt));
+        totals = λ f. omega (arith, r .totals f, ap f eq, slotTotal-put 𝓣 law f m h (get m i) (s .ok) (fit-get m i (s .ok)) (s .h-lt));
       }
 
   shifted : (n : ℕ) (m : M) (h i : ℕ) → Shifting 𝓣 law n m h i → Removed m h (shift 𝓣 n m h i)
@@ -95,8 +95,8 @@ module _ {M : Type 0} (𝓣 : Table M) (law : Lawful 𝓣) where
       rw (shift-moves 𝓣 (suc n) n m h i refl (eqb-false _ _ t) u)
       (moved s (shifted n (put m h (get m i)) i (next size i) (moves 𝓣 law s (eqb-false _ _ t) (ltb-false _ _ (sym back ∙ u)))))))
     where
-      back : stays 𝓣 m h i ≡ ltb (dist size (home (get m i)) i) (dist size h i)
-      back = stays-is 𝓣 m h i (s .h-lt) (s .i-lt) (home-lt _)
+      back : stays 𝓣 m h i ≡ ltb (dist size (start (get m i)) i) (dist size h i)
+      back = stays-is 𝓣 m h i (s .h-lt) (s .i-lt) (start-lt _)
 
   pub removed : (m : M) (h e : ℕ) → Ok m → Good 𝓣 m → h < size → get m h ≢ 0 → Empty 𝓣 m e → Removed m h (remove 𝓣 m h)
   unfolding remove

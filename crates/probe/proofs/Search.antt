@@ -28,6 +28,12 @@ module _ (C : ℕ) (stop : ℕ → Bool) where
   unfolding probe
   probe-goes n n′ i e t = rw (e, t, probe)
 
+  pub probe-lt : (n i : ℕ) → i < C → probe C stop n i < C
+  probe-lt zero i h = rw (probe-out zero i (omega arith)) h
+  probe-lt (suc n) i h =
+      by-test (stop i) (λ (t : stop i ≡ true). rw (probe-stops (suc n) i t) h)
+      (λ (t : stop i ≡ false). rw (probe-goes (suc n) n i refl t) (probe-lt n (next C i) (next-lt C h)))
+
   -- r is the first slot from i on at which to stop
   pub record First (i r : ℕ) : Type 0 where
     pub lt : r < C
@@ -59,8 +65,38 @@ module _ (C : ℕ) (stop : ℕ → Bool) where
                 (same-or i k);
           }
 
+-- two searches that stop at the same slots
+module _ (C : ℕ) (stop stop′ : ℕ → Bool) (same : (k : ℕ) → k < C → stop k ≡ stop′ k) where
+  pub probe-same : (n i : ℕ) → i < C → probe C stop n i ≡ probe C stop′ n i
+  probe-same zero i h = probe-out C stop zero i (omega arith) ∙ sym (probe-out C stop′ zero i (omega arith))
+  probe-same (suc n) i h =
+      by-test (stop i)
+      (λ t. probe-stops C stop (suc n) i t ∙ sym (probe-stops C stop′ (suc n) i (sym (same i h) ∙ t)))
+      (λ t.
+      probe-goes C stop (suc n) n i refl t ∙ probe-same n (next C i) (next-lt C h)
+      ∙ sym (probe-goes C stop′ (suc n) n i refl (sym (same i h) ∙ t)))
+
+module _ {M : Type 0} (𝓣 : Table M) (i : ℕ) (hi : i < 𝓣 .size) where
+  open Table 𝓣 using (size, get)
+
+  pub room-lt : (m : M) → room 𝓣 m i < size
+  unfolding room
+  room-lt m = probe-lt size (empty 𝓣 m) size i hi
+
+  -- the search for a number that is in no slot ends at the first empty slot
+  pub seek-room : (hit : ℕ → Bool) (m : M) → ((k : ℕ) → k < size → get m k ≢ 0 → hit (get m k) ≡ false) → seek 𝓣 hit m i ≡ room 𝓣 m i
+  unfolding seek room
+  seek-room hit m miss =
+      probe-same size (ends 𝓣 hit m) (empty 𝓣 m)
+      (λ k h. ⊎-elim (λ (e : get m k ≡ 0). rw (eq-eqb _ _ e)) (λ n. rw (ne-eqb _ _ n, miss k h n)) (same-or (get m k) 0)) size i hi
+
+  -- two tables with the same slots have the same first empty slot
+  pub room-same : (m m′ : M) → ((k : ℕ) → k < size → get m k ≡ get m′ k) → room 𝓣 m i ≡ room 𝓣 m′ i
+  unfolding room
+  room-same m m′ e = probe-same size (empty 𝓣 m) (empty 𝓣 m′) (λ k h. rw (e k h)) size i hi
+
 module _ {M : Type 0} (𝓣 : Table M) (law : Lawful 𝓣) (m : M) (i e : ℕ) (hi : i < 𝓣 .size) (em : Empty 𝓣 m e) where
-  open Table 𝓣 using (size, home, get)
+  open Table 𝓣 using (size, start, get)
   open Lawful law using (two)
 
   pub room-first : First size (empty 𝓣 m) i (room 𝓣 m i)
@@ -83,7 +119,7 @@ module _ {M : Type 0} (𝓣 : Table M) (law : Lawful 𝓣) (m : M) (i e : ℕ) (
     seek-hit ne = let s : _ = seek-first .stops in rw (ne-eqb _ _ ne) at s
 
     -- in a good table the search from its start comes to a number that is meant if there is one, and so ends empty only if there is none
-    pub seek-finds : Good 𝓣 m → (j : ℕ) → j < size → get m j ≢ 0 → home (get m j) ≡ i → hit (get m j) ≡ true → get m (seek 𝓣 hit m i) ≢ 0
+    pub seek-finds : Good 𝓣 m → (j : ℕ) → j < size → get m j ≢ 0 → start (get m j) ≡ i → hit (get m j) ≡ true → get m (seek 𝓣 hit m i) ≢ 0
     seek-finds good j hj fj hm ht =
         ⊎-elim
         (λ (l : dist size i j < dist size i (seek 𝓣 hit m i)).

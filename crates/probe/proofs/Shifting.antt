@@ -10,8 +10,8 @@ use Rattle.probe.proofs.Ring.{next-lt, dist-lt, dist-next, dist-sub, di
 use Rattle.probe.proofs.Table.{Lawful}
 
 module _ {M : Type 0} (𝓣 : Table M) (law : Lawful 𝓣) where
-  open Table 𝓣 using (size, home, get, put)
-  open Lawful law using (Ok, two, home-lt, fit-zero, fit-get, ok-put, same, other)
+  open Table 𝓣 using (size, start, get, put)
+  open Lawful law using (Ok, two, start-lt, fit-zero, fit-get, ok-put, same, other)
 
   -- The hole is h, whatever it holds, and the slots after it are read up to but without i. near: but for the hole the table is good.
   -- ahead: a slot on whose stretch the hole lies is yet to be read. The n steps that are left lead past an empty slot e.
@@ -81,10 +81,10 @@ module _ {M : Type 0} (𝓣 : Table M) (law : Lawful 𝓣) where
         not-h : k ≡ h → ⊥
         not-h kh =
             let on-h : On 𝓣 m j h = rw (← kh) on′ in
-            s .near j i hj (s .i-lt) jh i-h full (dist-through size (home-lt _) (s .h-lt) hj (s .i-lt) on-h (s .ahead j hj jh full on-h)) z
+            s .near j i hj (s .i-lt) jh i-h full (dist-through size (start-lt _) (s .h-lt) hj (s .i-lt) on-h (s .ahead j hj jh full on-h)) z
 
   -- a slot that stays is passed
-  pub passes : {n : ℕ} {m : M} {h i : ℕ} → Shifting (suc n) m h i → get m i ≢ 0 → dist size (home (get m i)) i < dist size h i → Shifting n m h (next size i)
+  pub passes : {n : ℕ} {m : M} {h i : ℕ} → Shifting (suc n) m h i → get m i ≢ 0 → dist size (start (get m i)) i < dist size h i → Shifting n m h (next size i)
   passes {n} {m} {h} {i} s full st =
       record {
         ok = s .ok;
@@ -110,7 +110,7 @@ module _ {M : Type 0} (𝓣 : Table M) (law : Lawful 𝓣) where
       not-i : (j : ℕ) → i ≡ j → On 𝓣 m j h → ⊥
       not-i j q on =
           let on-i : On 𝓣 m i h = rw q on in
-          omega (arith, dist-sub size (home-lt (get m i)) (s .h-lt) (s .i-lt) on-i)
+          omega (arith, dist-sub size (start-lt (get m i)) (s .h-lt) (s .i-lt) on-i)
 
       beyond : (j : ℕ) → j < size → j ≢ h → get m j ≢ 0 → On 𝓣 m j h → suc (dist size h i) ≤ dist size h j
       beyond j hj jh fj on =
@@ -118,7 +118,7 @@ module _ {M : Type 0} (𝓣 : Table M) (law : Lawful 𝓣) where
           omega (arith, s .ahead j hj jh fj on)
 
   -- a number that moves fills the hole, and its old slot is the hole
-  pub moves : {n : ℕ} {m : M} {h i : ℕ} → Shifting (suc n) m h i → get m i ≢ 0 → dist size h i ≤ dist size (home (get m i)) i
+  pub moves : {n : ℕ} {m : M} {h i : ℕ} → Shifting (suc n) m h i → get m i ≢ 0 → dist size h i ≤ dist size (start (get m i)) i
       → Shifting n (put m h (get m i)) i (next size i)
   moves {n} {m} {h} {i} s full st =
       record {
@@ -152,8 +152,8 @@ module _ {M : Type 0} (𝓣 : Table M) (law : Lawful 𝓣) where
       near j k hj hk kh fj on =
           ⊎-elim
           (λ (jh : j ≡ h).
-          let on-h : dist size (home (get m i)) k ≤ dist size (home (get m i)) h = rw (jh, at-h) at on in
-          s .near i k (s .i-lt) hk (i-h s) kh full (omega (arith, dist-back size (home-lt (get m i)) (s .h-lt) (s .i-lt) st)))
+          let on-h : dist size (start (get m i)) k ≤ dist size (start (get m i)) h = rw (jh, at-h) at on in
+          s .near i k (s .i-lt) hk (i-h s) kh full (omega (arith, dist-back size (start-lt (get m i)) (s .h-lt) (s .i-lt) st)))
           (λ jh.
           let eq : get (put m h (get m i)) j ≡ get m j = at-other j hj jh in
           s .near j k hj hk jh kh (rw eq at fj) (rw eq at on))

@@ -7,11 +7,11 @@ use Rattle.probe.specs.Ring.{next, dist}
 use Rattle.probe.specs.Table.{Table, empty}
 
 module _ {M : Type 0} (𝓣 : Table M) where
-  open Table 𝓣 using (size, home, get, put)
+  open Table 𝓣 using (size, start, get, put)
 
   -- the start of what i holds lies on the stretch after the hole h up to and including i
   unfoldable pub stays : M → ℕ → ℕ → Bool
-  stays m h i = let d : ℕ = dist size h (home (get m i)) in ltb 0 d && leb d (dist size h i)
+  stays m h i = let d : ℕ = dist size h (start (get m i)) in ltb 0 d && leb d (dist size h i)
 
   -- the hole is h, the next slot to be read is i
   unfoldable pub shift : ℕ → M → ℕ → ℕ → M

@@ -27,9 +27,9 @@ use Rattle.removal.specs.Removal.{removeAt}
 use Rattle.upkeep.proofs.Framing.{framed-again}
 
 -- how far the start of v is from the hole h, where the code has its parts
-pub home-distance : (st : Settings) (v h : ℕ) {k x d : ℕ} → k ≡ slotKey st v → x ≡ start st k → d ≡ dist (st .slots) h x
+pub start-distance : (st : Settings) (v h : ℕ) {k x d : ℕ} → k ≡ slotKey st v → x ≡ start st k → d ≡ dist (st .slots) h x
     → d ≡ dist (st .slots) h (start st (slotKey st v))
-home-distance st v h ek ex ed = ed ∙ ap (dist (st .slots) h) (ex ∙ ap (start st) ek)
+start-distance st v h ek ex ed = ed ∙ ap (dist (st .slots) h) (ex ∙ ap (start st) ek)
 
 -- the start of v lies on the stretch after the hole h up to and including i
 abbrev pub Stays : Settings → ℕ → ℕ → ℕ → Type 0

@@ -1,5 +1,4 @@
 pub mod Slots
-pub mod Twice
 pub mod Numbers
 pub mod Tier
 pub mod Removing

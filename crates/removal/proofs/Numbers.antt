@@ -9,19 +9,18 @@ use Rattle.settings.specs.declared.Settings.{Settings}
 use Rattle.layout.specs.declared.Shape.{Shape}
 use Rattle.layout.specs.Tiers.{IsTier}
 use Rattle.layout.specs.Frame.{Image}
-use Rattle.probe.specs.Table.{Empty, Good, total}
-use Rattle.probe.proofs.Table.{Lawful, total-has, total-found}
+use Rattle.probe.specs.Table.{Empty, Good, slotTotal}
+use Rattle.probe.proofs.Table.{Lawful, slotTotal-has, slotTotal-found, slotTotal-two, slotTotal-once}
 use Rattle.probe.proofs.Removal.{Removed, removed}
 use Rattle.probe.proofs.Has.{one-at, one-at-same, one-at-pos, removed-empty}
 use Rattle.entries.specs.Live.{slotAt, chunkOf}
 use Rattle.search.specs.Search.{slotsOf}
-use Rattle.search.specs.Rules.{chunksAt, SomeEmpty, TierFits}
+use Rattle.search.specs.Rules.{chunksAt, SomeEmpty, TierSlotsFit}
 use Rattle.search.proofs.Landing.{good}
 use Rattle.upkeep.proofs.Values.{ifFull, full-is, empty-is}
 use Rattle.upkeep.proofs.Sums.{table-same}
 use Rattle.search.proofs.Slots.{slots-lawful}
 use Rattle.removal.specs.Removal.{removeAt}
-use Rattle.removal.proofs.Twice.{total-two, total-once}
 use Rattle.removal.proofs.Slots.{cleared, cleared-image, cleared-slot}
 
 -- 1 where a full slot holds v
@@ -51,7 +50,7 @@ pub record Removable (z : Shape) (img : List ℕ) (s t j c n : ℕ) : Type 0 whe
   pub tierIs : IsTier z t
   pub slotIn : j < z .settings .slots
   pub full : slotAt z img t j ≢ 0
-  pub fits : TierFits z img s t
+  pub fits : TierSlotsFit z img s t
   pub chunkIs : c ≡ chunkOf z img t j
   pub chunksIs : n ≡ chunksAt z img t j
 
@@ -88,7 +87,7 @@ module _ {z : Shape} {img : List ℕ} {s t j c n : ℕ} (w : Removable z img s t
       (record { lt = some .1 .0; free = slot-kept (some .0) (some .1 .0) ∙ some .1 .1 })
 
   -- what is known of every sum
-  pub sums : (f : ℕ → ℕ) → total (slotsOf z t) (ifFull f) new slots + f (slotAt z img t j) ≡ total (slotsOf z t) (ifFull f) img slots
+  pub sums : (f : ℕ → ℕ) → slotTotal (slotsOf z t) (ifFull f) new slots + f (slotAt z img t j) ≡ slotTotal (slotsOf z t) (ifFull f) img slots
   sums f =
       omega (
         arith,
@@ -111,8 +110,9 @@ module _ {z : Shape} {img : List ℕ} {s t j c n : ℕ} (w : Removable z img s t
   pub stood : (k : ℕ) → k < slots → slotAt z new t k ≢ 0 → (i : ℕ) × (i < slots) × (slotAt z new t k ≡ slotAt z img t i)
   stood k hk fk =
       let v : ℕ = slotAt z new t k in
-      let there : 0 < total (slotsOf z t) (is-it v) new slots = omega (arith, total-has (slotsOf z t) (is-it v) new slots k hk, is-it-same v v fk refl) in
-      let r : (i : ℕ) × (i < slots) × (0 < is-it v (slotAt z img t i)) = total-found (slotsOf z t) (is-it v) img slots (omega (arith, sums (one-at v))) in
+      let there : 0 < slotTotal (slotsOf z t) (is-it v) new slots =
+      omega (arith, slotTotal-has (slotsOf z t) (is-it v) new slots k hk, is-it-same v v fk refl) in
+      let r : (i : ℕ) × (i < slots) × (0 < is-it v (slotAt z img t i)) = slotTotal-found (slotsOf z t) (is-it v) img slots (omega (arith, sums (one-at v))) in
       (r .0, r .1, sym (is-it-pos v (slotAt z img t (r .0)) (r .2)))
 
   -- a number that stood in one slot only stands in one slot only
@@ -122,7 +122,7 @@ module _ {z : Shape} {img : List ℕ} {s t j c n : ℕ} (w : Removable z img s t
       ⊎-elim
       (λ (e : i ≡ k). e)
       (λ (e : i ≢ k).
-      let few : total (slotsOf z t) (is-it v) img slots ≤ 1 =
-      total-once (slotsOf z t) (is-it v) img slots (λ x. is-it-small v x ne) (λ a b ha hb fa fb. one a b ha hb (is-it-pos v _ fa) (is-it-pos v _ fb)) in
-      absurd (omega (arith, total-two (slotsOf z t) (is-it v) new slots i k hi hk e, is-it-same v _ ne ei, is-it-same v _ ne ek, sums (one-at v), few)))
+      let few : slotTotal (slotsOf z t) (is-it v) img slots ≤ 1 =
+      slotTotal-once (slotsOf z t) (is-it v) img slots (λ x. is-it-small v x ne) (λ a b ha hb fa fb. one a b ha hb (is-it-pos v _ fa) (is-it-pos v _ fb)) in
+      absurd (omega (arith, slotTotal-two (slotsOf z t) (is-it v) new slots i k hi hk e, is-it-same v _ ne ei, is-it-same v _ ne ek, sums (one-at v), few)))
       (same-or i k)

@@ -11,7 +11,7 @@ use Rattle.layout.specs.declared.Shape.{Shape}
 use Rattle.layout.specs.Tiers.{IsTier}
 use Rattle.layout.specs.Places.{mark}
 use Rattle.chains.specs.Chains.{chain, freeHead}
-use Rattle.probe.specs.Table.{total as Table·total}
+use Rattle.probe.specs.Table.{slotTotal}
 use Rattle.entries.specs.declared.Live.{Live}
 use Rattle.entries.specs.Live.{slotAt, entryAt, fullSlots, liveAt, live}
 use Rattle.entries.proofs.LiveLists.{IsLive, live-in}
@@ -20,7 +20,7 @@ use Rattle.upkeep.specs.Sound.{Pair, pairOf, pairsOf, SoundBut}
 use Rattle.removal.specs.Removal.{removeEntry}
 use Rattle.upkeep.proofs.Values.{pairFor, ifFull, weigh}
 use Rattle.upkeep.proofs.Sums.{full-total, table-same}
-use Rattle.upkeep.proofs.Chained.{chain-in-tiers}
+use Rattle.chains.proofs.Tiers.{chain-tiers}
 use Rattle.upkeep.proofs.AgreeTier.{same-full}
 use Rattle.upkeep.proofs.AgreeChains.{same-chain}
 use Rattle.upkeep.proofs.Replaced.{OnlyTier, tier-replaced, pairs-replaced}
@@ -39,7 +39,7 @@ module _ (z : Shape) (img : List ℕ) {but : List ℕ} (sound : SoundBut z img b
   found = live-in z img e m
 
   is-tier : IsTier z tier
-  is-tier = chain-in-tiers z img (sound .fits .chains) segment tier (found .segmentIn) (found .tierIn)
+  is-tier = chain-tiers z img (sound .fits .chains) segment (found .segmentIn) tier (found .tierIn)
 
   removable : Removable z img segment tier slot chunk count
   unfolding liveAt
@@ -98,7 +98,7 @@ module _ (z : Shape) (img : List ℕ) {but : List ℕ} (sound : SoundBut z img b
   -- ---- the pairs
 
   -- the sum over the tier's pairs after the removal, by the pairs as they were
-  weigh-after : (F : Pair → ℕ) → weigh z after F tier ≡ Table·total (slotsOf z tier) (ifFull (λ v. F (pairFor z img tier v))) after slots
+  weigh-after : (F : Pair → ℕ) → weigh z after F tier ≡ slotTotal (slotsOf z tier) (ifFull (λ v. F (pairFor z img tier v))) after slots
   unfolding weigh
   weigh-after F =
       table-same z tier after after (λ v. F (pairFor z img tier v)) (λ v. F (pairFor z after tier v)) (λ k hk. refl)

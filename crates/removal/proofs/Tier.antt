@@ -14,13 +14,13 @@ use Rattle.layout.specs.declared.Shape.{Shape}
 use Rattle.layout.specs.Places.{mark}
 use Rattle.layout.proofs.Marks.{mark-lt, mark-putMarks-in, mark-putMarks-out}
 use Rattle.chains.specs.Chains.{chain}
-use Rattle.probe.specs.Table.{total as Table·total}
+use Rattle.probe.specs.Table.{slotTotal}
 use Rattle.entries.specs.declared.Stored.{Stored}
 use Rattle.entries.specs.Keys.{slotChunk}
 use Rattle.entries.specs.Stored.{entryOf, keyOf, chunksFor}
 use Rattle.entries.specs.Live.{slotAt, chunkOf, entryAt, liveAt, liveIn}
 use Rattle.search.specs.Search.{slotsOf}
-use Rattle.search.specs.Rules.{keyAt, TierFits, KeysOnce}
+use Rattle.search.specs.Rules.{keyAt, KeysOnce, TierSlotsFit}
 use Rattle.chunks.specs.Chunks.{covers, MarksFit}
 use Rattle.removal.specs.Removal.{removeAt}
 use Rattle.upkeep.proofs.Values.{entryFor, ifFull}
@@ -83,7 +83,7 @@ module _ {z : Shape} {img : List ℕ} {s t j c n : ℕ} (w : Removable z img s t
         moved = entry-moves z img new t bytes-same s (r .0) k (r .2) (w .fits .slotsFit .full (r .0) (r .1) f);
       }
 
-  again-fits : TierFits z new s t
+  again-fits : TierSlotsFit z new s t
   again-fits =
       record {
         slotsFit = record { someEmpty = new-empty w; full = λ k hk fk. was k hk fk .moved .fits };
@@ -121,7 +121,7 @@ module _ {z : Shape} {img : List ℕ} {s t j c n : ℕ} (w : Removable z img s t
       (same-stored z img img′ t b (chunkOf z img′ t k))
 
   covered : (img′ : List ℕ) → SameBytes z img img′ t → (i : ℕ)
-      → howMany (liveIn z img′ s t) (covers i) ≡ Table·total (slotsOf z t) (ifFull (weight i)) img′ slots
+      → howMany (liveIn z img′ s t) (covers i) ≡ slotTotal (slotsOf z t) (ifFull (weight i)) img′ slots
   covered img′ b i =
       howMany-total (liveIn z img′ s t) (covers i)
       ∙ liveIn-total z img′ s t (λ e. one-if (covers i e)) (weight i) (λ k hk fk. by-number img′ b i k)

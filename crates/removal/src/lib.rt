@@ -20,8 +20,8 @@ fn stays(st: Settings, v: u64, h: usize, i: usize) -> bool
     requires { ⌜ Valid st × (h < st .slots) × (i < st .slots) ⌝ }
     ensures { λ r. ⌜ Decides r ((0 < dist (st .slots) h (start st (slotKey st v))) × (dist (st .slots) h (start st (slotKey st v)) ≤ dist (st .slots) h i)) ⌝ }
 {
-    let home = entries::keys::start(st, entries::keys::slot_key(st, v));
-    let d = probe::distance(st.slots, h, home);
+    let from = entries::keys::start(st, entries::keys::slot_key(st, v));
+    let d = probe::distance(st.slots, h, from);
     if d == 0 {
         return false;
     }
@@ -66,6 +66,6 @@ pub fn remove_at(z: Shape, img: &mut [u8], t: usize, j: usize, c: usize, n: usiz
     requires { ⌜ Framed z (length (now img)) × IsTier z t × (j < z .settings .slots) × (c + n ≤ z .settings .chunks) ⌝ }
     ensures { λ r. ⌜ now (img .exit) ≡ removeAt z (now (img .entry)) t j c n ⌝ }
 {
-    layout::write::clear_marks(z, img, t, c, n);
+    layout::write::put_marks(z, img, t, c, n, 0);
     empty_slot(z, img, t, j);
 }

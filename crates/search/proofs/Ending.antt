@@ -17,10 +17,11 @@ use Rattle.probe.specs.Ring.{next, dist}
 use Rattle.probe.proofs.Ring.{dist-lt, dist-nearer}
 use Rattle.entries.specs.Keys.{segmentOf, lookupKey, start, slotKey}
 use Rattle.entries.specs.Live.{slotAt}
+use Rattle.search.specs.declared.Sought.the-variants.{Holds, Empty}
 use Rattle.search.specs.declared.Found.the-variants.{At}
-use Rattle.search.specs.Search.{hits, seekIn, search, ChainTiers}
+use Rattle.search.specs.Search.{hits, seekIn, soughtIn, search, ChainTiers}
 use Rattle.search.specs.Rules.{keyAt, EntryFits}
-use Rattle.search.proofs.Landing.{hits-own, found-at}
+use Rattle.search.proofs.Finding.{hits-own, sought-holds, found-at}
 use Rattle.search.proofs.Seeking.{Seeking, seek-starts, seek-empty, seek-found, seek-turns, Searching, search-starts, searching-ends, searching-out, searching-tier, searching-found, searching-turns}
 use Rattle.search.proofs.Fitting.{never-both, same-tier}
 
@@ -62,7 +63,7 @@ module _ (z : Shape) (img : List ℕ) (t j : ℕ) where
           coming-turns n e k ek =
               let d : dist slots i j ≡ suc (dist slots k j) = coming-nearer k ek in
               let l : dist slots i j < w .left = w .enough in
-              record { left = w .left - 1; seeking = seek-turns z img key t (w .seeking) v ev n e (omega arith) k ek; enough = omega arith }
+              record { left = w .left - 1; seeking = seek-turns z img key t (w .seeking) fr v ev n e (omega arith) k ek; enough = omega arith }
 
       -- slot j stands for its own key
       pub coming-found : lookupKey settings key ≡ slotKey settings (slotAt z img t j) → i ≡ j → seekIn z img key t ≡ j
@@ -93,24 +94,21 @@ module _ (z : Shape) (img key : List ℕ) (t : ℕ) where
     reaching-out h j q = never-both (search z img key) t j _ _ q (sym (searching-out z img key (w .searching) h))
 
     module _ (h : k < most) where
-      pub reaching-here : IsTier z t → slotAt z img t (seekIn z img key t) ≢ 0 → u ≡ t → search z img key ≡ At t (seekIn z img key t)
-      reaching-here is full q =
+      pub reaching-here : IsTier z t → soughtIn z img key t ≡ Holds (seekIn z img key t) → u ≡ t → search z img key ≡ At t (seekIn z img key t)
+      reaching-here is holds q =
           let ne : u ≢ 0 = omega (arith, is) in
-          let f : At u (seekIn z img key u) ≡ search z img key =
-          searching-found z img key (w .searching) h ne (seekIn z img key u) (slotAt z img u (seekIn z img key u)) refl refl (rw q full)
-          in
+          let f : At u (seekIn z img key t) ≡ search z img key = searching-found z img key (w .searching) h ne _ (rw q holds) in
           sym (rw q at f)
 
       module _ (ne : u ≢ 0) where
         pub reaching-tier : IsTier z u
         reaching-tier = searching-tier z img key (w .searching) h ne
 
-        module _ (i v : ℕ) (ei : i ≡ seekIn z img key u) (ev : v ≡ slotAt z img u i) where
-          pub reaching-wrong : v ≢ 0 → u ≢ t → (j : ℕ) → search z img key ≡ At t j → ⊥
-          reaching-wrong n other j q = other (same-tier (search z img key) t j u i q (sym (searching-found z img key (w .searching) h ne i v ei ev n)))
+        pub reaching-wrong : (i : ℕ) → soughtIn z img key u ≡ Holds i → u ≢ t → (j : ℕ) → search z img key ≡ At t j → ⊥
+        reaching-wrong i e other j q = other (same-tier (search z img key) t j u i q (sym (searching-found z img key (w .searching) h ne i e)))
 
-          pub reaching-turns : v ≡ 0 → (n : ℕ) → n ≡ nextOf z img u → Reaching most n (k + 1)
-          reaching-turns e n en = record { tier = u; slot = i; searching = searching-turns z img key (w .searching) h ne i v ei ev e n en }
+        pub reaching-turns : (i : ℕ) → soughtIn z img key u ≡ Empty i → (n : ℕ) → n ≡ nextOf z img u → Reaching most n (k + 1)
+        reaching-turns i e n en = record { tier = u; slot = i; searching = searching-turns z img key (w .searching) h ne i e n en }
 
 -- ---- what is asked of a full slot
 
@@ -133,14 +131,14 @@ module _ (z : Shape) (img : List ℕ) (t j : ℕ) where
     lands-first s fits hs ts is full q =
         reaching-here z img own t (reaching-starts z img own t (tiers z) (s + 1) s refl refl (sym (fits .hashed .segmentAgrees)) hs ts)
         (omega (arith, segments-le z img)) is
-        (rw e full)
+        (sought-holds z img own t (rw e full))
         (sym q)
         ∙ ap (At t) e
 
     -- the key, as the code cuts it out
     module _ (k : List ℕ) (ek : k ≡ own) where
-      pub lands-full : slotAt z img t j ≢ 0 → slotAt z img t (seekIn z img k t) ≢ 0
-      lands-full full = rw (ek, e) full
+      pub lands-holds : slotAt z img t j ≢ 0 → soughtIn z img k t ≡ Holds (seekIn z img k t)
+      lands-holds full = sought-holds z img k t (rw (ek, e) full)
 
       pub lands-decided : (b : Bool) → Decides b (search z img k ≡ At t (seekIn z img k t)) → Decides b (search z img own ≡ At t j)
       lands-decided b d =

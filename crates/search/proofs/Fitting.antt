@@ -8,13 +8,14 @@ use Rattle.lists.specs.Quantify.{Below, Every}
 use Rattle.words.specs.Bytes.{cut}
 use Rattle.settings.specs.declared.Settings.{Settings}
 use Rattle.layout.specs.declared.Shape.{Shape}
-use Rattle.layout.specs.Tiers.{IsTier}
-use Rattle.layout.specs.Frame.{Framed, Image}
+use Rattle.layout.specs.Frame.{Image}
+use Rattle.layout.specs.FramedTier.{FramedTier}
 use Rattle.chains.specs.Chains.{chain}
 use Rattle.entries.specs.declared.Entry.{Entry}
 use Rattle.entries.specs.declared.Stored.{Stored}
 use Rattle.entries.specs.declared.Stored.the-variants.{Whole, Broken}
 use Rattle.entries.specs.Keys.{slotChunk, slotRest}
+use Rattle.entries.specs.Asking.{Lengths}
 use Rattle.entries.specs.Stored.{stored, entryOf, keyOf, chunksFor}
 use Rattle.entries.specs.Live.{slotAt, chunkOf, entryAt}
 use Rattle.entries.proofs.Whole.{WholeAt, whole-sound, whole-chunk, key-in-image}
@@ -24,7 +25,9 @@ use Rattle.search.specs.declared.rules.Slot.{Slot}
 use Rattle.search.specs.declared.rules.Slot.the-variants.{Fits}
 use Rattle.search.specs.declared.rules.Slot.the-variants as slot
 use Rattle.search.specs.Search.{ChainTiers}
-use Rattle.search.specs.Rules.{IsWhole, Hashed, keyAt, EntryFits, SlotsFit, EntriesFit, Lands, SlotHolds, SlotSays}
+use Rattle.search.specs.Rules.{IsWhole, Hashed, keyAt, EntryFits, SlotsFit, EntriesFit}
+use Rattle.search.specs.Landing.{Lands, SlotHolds, SlotSays}
+use Rattle.search.specs.Asking.{HasKey}
 use Rattle.search.proofs.Landing.{lands-once, lands-all-reached, all-land}
 
 -- ---- the cut of a key, as the code has it: from a place up to another
@@ -51,8 +54,8 @@ module _ (z : Shape) (img : List ℕ) (s t j : ℕ) where
       pub sound : WholeAt z img t c e
       sound = whole-sound z img t c e w
 
-      pub small : (e .keyLength ≤ 65535) × (e .valueLength ≤ 65535)
-      small = (sound .keySmall, sound .valueSmall)
+      pub small : Lengths (e .keyLength) (e .valueLength)
+      small = record { keySmall = sound .keySmall; valueSmall = sound .valueSmall }
 
       pub key-short : e .keyLength < 1 → EntryFits z img s t j → ⊥
       key-short h f = omega (arith, f .keyLength, ap (λ (x : Entry). x .keyLength) entry-is)
@@ -108,18 +111,17 @@ pub same-tier : (r : Found) (t j u k : ℕ) → r ≡ At t j → r ≡ At u k �
 same-tier r t j u k p q = cc
 
 module _ (z : Shape) (img : List ℕ) (t j : ℕ) where
-  room-of : Framed z (length img) → IsTier z t → (r : Stored) → stored z img t (chunkOf z img t j) ≡ r → IsWhole r
+  key-inside : FramedTier z img t → (r : Stored) → stored z img t (chunkOf z img t j) ≡ r → IsWhole r
       → entryAt z img t j .keyAt + entryAt z img t j .keyLength ≤ length img
   unfolding entryAt
-  room-of fr is (Whole e) q w =
+  key-inside tier (Whole e) q w =
       let same : entryAt z img t j ≡ e = ap entryOf q in
-      rw same (key-in-image z img t (chunkOf z img t j) (whole-sound z img t (chunkOf z img t j) e q) fr is)
-  room-of fr is Broken q w = absurd w
+      rw same (key-in-image z img t (chunkOf z img t j) (whole-sound z img t (chunkOf z img t j) e q) (tier .framed) (tier .tierIn))
+  key-inside tier Broken q w = absurd w
 
-  -- the key of a full slot stands within the image
-  pub key-room : Framed z (length img) → IsTier z t → IsWhole (stored z img t (chunkOf z img t j))
-      → entryAt z img t j .keyAt + entryAt z img t j .keyLength ≤ length img
-  key-room fr is w = room-of fr is (stored z img t (chunkOf z img t j)) refl w
+  -- the key of a slot whose entry can be read stands within the image
+  pub entry-has-key : FramedTier z img t → IsWhole (stored z img t (chunkOf z img t j)) → (e : Entry) → e ≡ entryAt z img t j → HasKey z img e
+  entry-has-key tier w e q = record { framed = tier .framed; keyInside = rw q (key-inside tier (stored z img t (chunkOf z img t j)) refl w) }
 
   pub key-part : (e : Entry) → e ≡ entryAt z img t j → take (e .keyAt + e .keyLength - e .keyAt) (drop (e .keyAt) img) ≡ keyAt z img t j
   unfolding keyAt

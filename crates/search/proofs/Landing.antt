@@ -3,105 +3,52 @@ use Prim.Native.Nat.{ℕ, _≤_, _<_}
 use mathlib.Core.List.{List, [], _∷_, List·Memᴰ, List·Memᴰ·head, List·Memᴰ·tail, List·Memᴰ·cases-cons, List·Memᴰ·not-nil}
 use mathlib.Core.Path.{_≡_, refl, ap, sym, _∙_}
 use mathlib.Core.Logic.{⊎-elim, _≢_}
-use mathlib.Core.Bool.{true, false, false≢true}
+use mathlib.Core.Bool.{false, false≢true}
 use native.Mathlib.Omega.{arith}
-use native.Mathlib.Nat.{mod-lt}
-use lib.Dec.{eqb}
-use borrow.Author.Tests.{eq-eqb, ne-eqb}
-use Rattle.lists.specs.Cases.{by-test, same-or, lt-or}
+use borrow.Author.Tests.{eq-eqb}
+use Rattle.lists.specs.Cases.{same-or, lt-or}
 use Rattle.lists.specs.Quantify.{Below, Every}
-use Rattle.words.proofs.Bytes.{same-eq, same-true}
 use Rattle.settings.specs.declared.Settings.{Settings}
 use Rattle.layout.specs.declared.Shape.{Shape}
 use Rattle.layout.specs.Tiers.{IsTier}
 use Rattle.layout.specs.Frame.{Image}
 use Rattle.chains.specs.Chains.{chain}
 use Rattle.probe.specs.Ring.{dist}
-use Rattle.probe.specs.Table.{Empty, Good}
+use Rattle.probe.specs.Table.{Empty as EmptySlot, Good}
 use Rattle.probe.specs.Search.{ends}
 use Rattle.probe.proofs.Ring.{dist-inj}
 use Rattle.probe.proofs.Search.{First, seek-first, seek-hit, seek-finds}
 use Rattle.entries.specs.Keys.{segmentOf, lookupKey, start, slotKey}
-use Rattle.entries.specs.Live.{slotAt, entryAt}
-use Rattle.search.specs.declared.Found.the-variants.{At, Absent}
+use Rattle.entries.specs.Live.{slotAt}
+use Rattle.entries.proofs.Hashes.{start-lt}
+use Rattle.search.specs.declared.Found.the-variants.{At}
 use Rattle.search.specs.Search.{slotsOf, hits, seekIn, searchFrom, search}
-use Rattle.search.specs.Rules.{keyAt, startAt, Reached, SomeEmpty, SlotsFit, KeysOnce, Lands}
+use Rattle.search.specs.Rules.{keyAt, startAt, Reached, SomeEmpty, SlotsFit, KeysOnce}
+use Rattle.search.specs.Landing.{Lands}
 use Rattle.search.proofs.Slots.{slots-lawful}
+use Rattle.search.proofs.Finding.{hits-key, hits-own, sought-empty, sought-holds, search-here, search-on, found-at, seekIn-lt}
 
 module _ (z : Shape) (img : List ℕ) where
   open Shape z using (settings)
   open Settings settings using (segments, slots)
 
-  -- ---- what a hit is
-
-  pub hits-key : (key : List ℕ) (t j : ℕ) → hits z img key t (slotAt z img t j) ≡ true → keyAt z img t j ≡ key
-  unfolding hits keyAt entryAt
-  hits-key key t j h =
-      by-test (eqb (slotKey settings (slotAt z img t j)) (lookupKey settings key))
-      (λ e. same-true _ key (rw e at h))
-      (λ e. absurd (false≢true (rw e at h)))
-
-  pub hits-own : (key : List ℕ) (t j : ℕ) → slotKey settings (slotAt z img t j) ≡ lookupKey settings key → keyAt z img t j ≡ key
-      → hits z img key t (slotAt z img t j) ≡ true
-  unfolding hits keyAt entryAt
-  hits-own key t j e k = rw (eq-eqb _ _ e, hits) (same-eq _ key k)
-
-  -- ---- the search, tier by tier
-
-  module _ (key : List ℕ) where
-    pub search-here : (u i t : ℕ) (ts : List ℕ) → slotAt z img t (seekIn z img key t) ≢ 0 → searchFrom z img key u i (t ∷ ts) ≡ At t (seekIn z img key t)
-    unfolding searchFrom
-    search-here u i t ts h = rw (ne-eqb _ _ h, searchFrom)
-
-    pub search-on : (u i t : ℕ) (ts : List ℕ) → slotAt z img t (seekIn z img key t) ≡ 0
-        → searchFrom z img key u i (t ∷ ts) ≡ searchFrom z img key t (seekIn z img key t) ts
-    unfolding searchFrom
-    search-on u i t ts h = rw (eq-eqb _ _ h, searchFrom)
-
-    pub search-end : (u i : ℕ) → searchFrom z img key u i [] ≡ Absent u i
-    unfolding searchFrom
-    search-end u i = refl
-
-    -- what is found is where the search in its tier ended
-    pub found-at : (u i : ℕ) (ts : List ℕ) (t j : ℕ) → searchFrom z img key u i ts ≡ At t j
-        → (seekIn z img key t ≡ j) × ((slotAt z img t j ≢ 0) × List·Memᴰ t ts)
-    found-at u i [] t j e = absurd (let f : Absent u i ≡ At t j = sym (search-end u i) ∙ e in let q : _≡_ {A = ℕ} 0 1 = cc in omega arith)
-    found-at u i (x ∷ ts) t j e =
-        ⊎-elim
-        (λ (h : slotAt z img x (seekIn z img key x) ≡ 0).
-        let r : (seekIn z img key t ≡ j) × ((slotAt z img t j ≢ 0) × List·Memᴰ t ts) =
-        found-at x (seekIn z img key x) ts t j (sym (search-on u i x ts h) ∙ e) in
-        (r .0, (r .1 .0, List·Memᴰ·tail (r .1 .1))))
-        (λ (h : slotAt z img x (seekIn z img key x) ≢ 0).
-        let f : At x (seekIn z img key x) ≡ At t j = sym (search-here u i x ts h) ∙ e in
-        let p : x ≡ t = cc in
-        let q : seekIn z img key x ≡ j = cc in
-        (rw p at q, (rw (q, p) at h, List·Memᴰ·head (sym p))))
-        (same-or (slotAt z img x (seekIn z img key x)) 0)
-
   -- ---- in an image whose slots fit one by one
 
   module _ (im : Image z img) (t : ℕ) (is : IsTier z t) (some : SomeEmpty z img t) where
-    some-empty : Empty (slotsOf z t) img (some .0)
+    some-empty : EmptySlot (slotsOf z t) img (some .0)
     some-empty = record { lt = some .1 .0; free = some .1 .1 }
-
-    start-lt : (lookup : ℕ) → start settings lookup < slots
-    start-lt lookup = mod-lt lookup (omega (arith, im .framed .valid .slots))
 
     module _ (key : List ℕ) where
       first : First slots (ends (slotsOf z t) (hits z img key t) img) (start settings (lookupKey settings key)) (seekIn z img key t)
       unfolding seekIn
-      first = seek-first (slotsOf z t) (slots-lawful (im .framed) t is) img _ (some .0) (start-lt _) some-empty (hits z img key t)
-
-      pub seek-in-lt : seekIn z img key t < slots
-      seek-in-lt = first .lt
+      first = seek-first (slotsOf z t) (slots-lawful (im .framed) t is) img _ (some .0) (start-lt (im .framed .valid) _) some-empty (hits z img key t)
 
       -- a full slot where the search ends stands for the key
       pub seek-key : slotAt z img t (seekIn z img key t) ≢ 0 → keyAt z img t (seekIn z img key t) ≡ key
       unfolding seekIn
       seek-key ne =
-          hits-key key t (seekIn z img key t)
-          (seek-hit (slotsOf z t) (slots-lawful (im .framed) t is) img _ (some .0) (start-lt _) some-empty (hits z img key t) ne)
+          hits-key z img key t (seekIn z img key t)
+          (seek-hit (slotsOf z t) (slots-lawful (im .framed) t is) img _ (some .0) (start-lt (im .framed .valid) _) some-empty (hits z img key t) ne)
 
       -- no slot on the way is empty
       pub way-full : (k : ℕ) → k < slots
@@ -121,9 +68,10 @@ module _ (z : Shape) (img : List ℕ) where
         → slotKey settings (slotAt z img t j) ≡ lookupKey settings key → keyAt z img t j ≡ key → slotAt z img t (seekIn z img key t) ≢ 0
     unfolding seekIn
     seek-full key r j hj fj l k =
-        seek-finds (slotsOf z t) (slots-lawful (im .framed) t is) img _ (some .0) (start-lt _) some-empty (hits z img key t) (good r) j hj fj
+        seek-finds (slotsOf z t) (slots-lawful (im .framed) t is) img _ (some .0) (start-lt (im .framed .valid) _) some-empty (hits z img key t)
+        (good r) j hj fj
         (ap (start settings) l)
-        (hits-own key t j l k)
+        (hits-own z img key t j l k)
 
     -- where the key of slot j is found in slot j, slot j is reached
     pub lands-reached : (j : ℕ) → j < slots → slotAt z img t j ≢ 0 → lookupKey settings (keyAt z img t j) ≡ slotKey settings (slotAt z img t j)
@@ -135,7 +83,7 @@ module _ (z : Shape) (img : List ℕ) where
         (λ (lt : dist slots a k < dist slots a j).
         way-full (keyAt z img t j) k hk (rw (s, e) lt))
         (λ (ge : dist slots a j ≤ dist slots a k).
-        let same-place : k ≡ j = dist-inj slots (start-lt (slotKey settings (slotAt z img t j))) hk hj (omega arith) in
+        let same-place : k ≡ j = dist-inj slots (start-lt (im .framed .valid) (slotKey settings (slotAt z img t j))) hk hj (omega arith) in
         rw same-place fj)
         (lt-or (dist slots a k) (dist slots a j))
 
@@ -158,7 +106,7 @@ module _ (z : Shape) (img : List ℕ) where
     unfolding search
     lands-all-reached l t mt j hj fj =
         lands-reached im t (tiersOf t mt) (fits t mt .someEmpty) j hj fj (fits t mt .full j hj fj .hashed .lookupAgrees)
-        (found-at (keyAt z img t j) 0 0 (chain z img (segmentOf settings (keyAt z img t j))) t j (l t mt j hj fj) .0)
+        (found-at z img (keyAt z img t j) 0 0 (chain z img (segmentOf settings (keyAt z img t j))) t j (l t mt j hj fj) .0)
 
     -- the search through the tiers ts of the chain, of which t is one
     module _ (once : KeysOnce z img s) (reached : AllReached s) (t : ℕ) (mt : List·Memᴰ t (chain z img s)) (j : ℕ) (hj : j < slots)
@@ -169,7 +117,7 @@ module _ (z : Shape) (img : List ℕ) where
       lands-from (x ∷ ts) part m u i =
           let mx : List·Memᴰ x (chain z img s) = part x (List·Memᴰ·head refl) in
           let k : ℕ = seekIn z img (keyAt z img t j) x in
-          let lt : k < slots = seek-in-lt im x (tiersOf x mx) (fits x mx .someEmpty) (keyAt z img t j) in
+          let lt : k < slots = seekIn-lt z img (im .framed) (keyAt z img t j) x in
           ⊎-elim
           (λ (h : slotAt z img x k ≡ 0).
           ⊎-elim
@@ -178,14 +126,16 @@ module _ (z : Shape) (img : List ℕ) where
           (seek-full im t (tiersOf t mt) (fits t mt .someEmpty) (keyAt z img t j) (reached t mt) j hj fj
           (sym (fits t mt .full j hj fj .hashed .lookupAgrees)) refl
           (rw (← e) at h)))
-          (λ (mr : List·Memᴰ t ts). search-on (keyAt z img t j) u i x ts h ∙ lands-from ts (λ y my. part y (List·Memᴰ·tail my)) mr x k)
+          (λ (mr : List·Memᴰ t ts).
+          search-on z img (keyAt z img t j) u i x k ts (sought-empty z img (keyAt z img t j) x h)
+          ∙ lands-from ts (λ y my. part y (List·Memᴰ·tail my)) mr x k)
           (List·Memᴰ·cases-cons m))
           (λ (h : slotAt z img x k ≢ 0).
           let own : keyAt z img x k ≡ keyAt z img t j = seek-key im x (tiersOf x mx) (fits x mx .someEmpty) (keyAt z img t j) h in
           let same-slot : (t ≡ x) × (j ≡ k) = once t mt j hj fj x mx k lt h (sym own) in
           let p : t ≡ x = same-slot .0 in
           let q : j ≡ k = same-slot .1 in
-          search-here (keyAt z img t j) u i x ts h ∙ sym (cc))
+          search-here z img (keyAt z img t j) u i x k ts (sought-holds z img (keyAt z img t j) x h) ∙ sym (cc))
           (same-or (slotAt z img x k) 0)
 
       pub lands : search z img (keyAt z img t j) ≡ At t j

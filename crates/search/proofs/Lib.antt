@@ -1,4 +1,5 @@
 pub mod Slots
+pub mod Finding
 pub mod Landing
 pub mod Seeking
 pub mod Fitting

@@ -1,11 +1,13 @@
 -- What the loops of `seek` and `search` keep: what is left gives the same as the whole.
-use Prim.Native.Nat.{ℕ, suc, _+_, _-_, _≤_, _<_}
-use mathlib.Core.List.{List, _∷_, List·Memᴰ·head, List·Memᴰ·tail}
+use Prim.Native.Nat.{ℕ, _+_, _-_, _≤_, _<_}
+use mathlib.Core.List.{List, [], _∷_, _++_, append-nil}
 use mathlib.Core.Path.{_≡_, refl, ap, sym, _∙_}
 use mathlib.Core.Logic.{_≢_}
 use mathlib.Core.Bool.{Bool, true, false}
 use native.Mathlib.Omega.{arith}
 use lib.Dec.{eqb}
+use lib.ListN.{length}
+use lib.Seq.{append-snoc}
 use borrow.Author.Tests.{eq-eqb, ne-eqb}
 use Rattle.lists.specs.Cases.{by-test}
 use Rattle.lists.specs.Quantify.{Below, Every}
@@ -13,20 +15,22 @@ use Rattle.words.specs.Bytes.{same, cut}
 use Rattle.settings.specs.declared.Settings.{Settings}
 use Rattle.layout.specs.declared.Shape.{Shape}
 use Rattle.layout.specs.Tiers.{tiers, IsTier}
-use Rattle.chains.specs.Chains.{follow, chain, nextOf}
-use Rattle.chains.proofs.Follow.{follow-none, follow-more}
-use Rattle.probe.specs.Ring.{next}
+use Rattle.layout.specs.Frame.{Framed}
+use Rattle.chains.specs.Chains.{chain, nextOf}
+use Rattle.chains.proofs.Along.{AlongChain, chain-starts, chain-ends, chain-out, chain-splits, chain-in, chain-turns}
+use Rattle.probe.specs.Ring.{next, dist}
 use Rattle.probe.specs.Search.{probe, seek, ends}
-use Rattle.probe.proofs.Ring.{next-lt}
+use Rattle.probe.proofs.Ring.{next-lt, dist-lt, dist-nearer}
 use Rattle.probe.proofs.Search.{probe-out, probe-stops, probe-goes}
 use Rattle.entries.specs.declared.Entry.{Entry}
 use Rattle.entries.specs.declared.Stored.the-variants.{Whole, Broken}
 use Rattle.entries.specs.Keys.{segmentOf, lookupKey, start, slotKey, slotChunk}
 use Rattle.entries.specs.Stored.{stored}
 use Rattle.entries.specs.Live.{slotAt}
+use Rattle.search.specs.declared.Sought.the-variants.{Holds, Empty}
 use Rattle.search.specs.declared.Found.the-variants.{At, Absent}
-use Rattle.search.specs.Search.{slotsOf, hits, seekIn, searchFrom, search}
-use Rattle.search.proofs.Landing.{search-here, search-on, search-end}
+use Rattle.search.specs.Search.{slotsOf, hits, seekIn, searchFrom, search, soughtIn}
+use Rattle.search.proofs.Finding.{sought-empty, sought-holds, search-here, search-on, search-end}
 
 module _ (z : Shape) (img key : List ℕ) (t : ℕ) where
   open Shape z using (settings)
@@ -56,13 +60,16 @@ module _ (z : Shape) (img key : List ℕ) (t : ℕ) where
   abbrev stop : ℕ → Bool
   stop = ends (slotsOf z t) (hits z img key t) img
 
+  -- each empty slot is among the slots that are left
   pub record Seeking (i left : ℕ) : Type 0 where
     pub lt : i < slots
     pub is : probe slots stop left i ≡ seekIn z img key t
+    pub ahead : (k : ℕ) → k < slots → slotAt z img t k ≡ 0 → dist slots i k < left
 
   pub seek-starts : (i lookup : ℕ) → lookup ≡ lookupKey settings key → i ≡ start settings lookup → i < slots → Seeking i slots
   unfolding seekIn seek
-  seek-starts i lookup e q h = record { lt = h; is = ap (probe slots stop slots) (q ∙ ap (start settings) e) }
+  seek-starts i lookup e q h =
+      record { lt = h; is = ap (probe slots stop slots) (q ∙ ap (start settings) e); ahead = λ k hk _. dist-lt slots h hk }
 
   module _ {i left : ℕ} (w : Seeking i left) where
     -- the slot is empty, or it stands for the key
@@ -75,17 +82,35 @@ module _ (z : Shape) (img key : List ℕ) (t : ℕ) where
         let s : stop i ≡ true = by-test (eqb (slotAt z img t i) 0) (λ b. rw b) (λ b. rw (b, h)) in
         sym (probe-stops slots stop left i s) ∙ w .is
 
-    pub seek-turns : (v : ℕ) → v ≡ slotAt z img t i → v ≢ 0 → hits z img key t v ≡ false → 0 < left → (j : ℕ) → j ≡ next slots i → Seeking j (left - 1)
-    seek-turns v e n q pos j ej =
+    pub seek-turns : Framed z (length img) → (v : ℕ) → v ≡ slotAt z img t i → v ≢ 0 → hits z img key t v ≡ false → 0 < left
+        → (j : ℕ) → j ≡ next slots i → Seeking j (left - 1)
+    seek-turns fr v e n q pos j ej =
         let h : hits z img key t (slotAt z img t i) ≡ false = ap (hits z img key t) (sym e) ∙ q in
         let s : stop i ≡ false = rw (ne-eqb (slotAt z img t i) 0 (λ x. n (e ∙ x)), h) in
         record {
           lt = rw ej (next-lt slots (w .lt));
           is = ap (probe slots stop (left - 1)) ej ∙ sym (probe-goes slots stop left (left - 1) i (omega arith) s) ∙ w .is;
+          ahead = λ k hk z₀.
+              let other : i ≢ k = λ (x : i ≡ k). n (e ∙ ap (slotAt z img t) x ∙ z₀) in
+              rw ej (omega (arith, w .ahead k hk z₀, dist-nearer slots (w .lt) hk (omega (arith, fr .valid .slots)) other));
         }
 
-    pub seek-out : left ≤ 0 → i ≡ seekIn z img key t
-    seek-out h = sym (probe-out slots stop left i h) ∙ w .is
+    -- ---- what it answers
+
+    pub seek-ends-empty : (v : ℕ) → v ≡ slotAt z img t i → v ≡ 0 → Empty i ≡ soughtIn z img key t
+    seek-ends-empty v e q =
+        let is : i ≡ seekIn z img key t = seek-empty v e q in
+        ap Empty is ∙ sym (sought-empty z img key t (ap (slotAt z img t) (sym is) ∙ sym e ∙ q))
+
+    ends-full : i ≡ seekIn z img key t → slotAt z img t i ≢ 0 → Holds i ≡ soughtIn z img key t
+    ends-full is n = ap Holds is ∙ sym (sought-holds z img key t (λ q. n (ap (slotAt z img t) is ∙ q)))
+
+    pub seek-ends-holds : (v : ℕ) → v ≡ slotAt z img t i → v ≢ 0 → hits z img key t v ≡ true → Holds i ≡ soughtIn z img key t
+    seek-ends-holds v e n q = ends-full (seek-found v e q) (λ x. n (e ∙ x))
+
+    -- no slot is left, so none is empty
+    pub seek-ends-out : left ≤ 0 → Holds i ≡ soughtIn z img key t
+    seek-ends-out h = ends-full (sym (probe-out slots stop left i h) ∙ w .is) (λ q. omega (arith, w .ahead i (w .lt) q))
 
 -- ---- the loop of `search`
 
@@ -93,54 +118,49 @@ module _ (z : Shape) (img key : List ℕ) where
   open Shape z using (settings)
   open Settings settings using (segments, slots)
 
+  -- the tiers of done were met, and the search ended empty in each; the last was u, at slot i
   pub record Searching (most t u i k : ℕ) : Type 0 where
-    pub low : k ≤ most
-    pub tiersOf : Every (follow z img (most - k) t) (IsTier z)
-    pub is : searchFrom z img key u i (follow z img (most - k) t) ≡ search z img key
+    pub done : List ℕ
+    pub along : AlongChain z img (segmentOf settings key) most done t k
+    pub tiersOf : Every (chain z img (segmentOf settings key)) (IsTier z)
+    pub passed : (ts : List ℕ) → searchFrom z img key 0 0 (done ++ ts) ≡ searchFrom z img key u i ts
 
   pub search-starts : (most t s : ℕ) → most ≡ tiers z → t ≡ s + 1 → s ≡ segmentOf settings key → s < segments
       → Below segments (λ s. Every (chain z img s) (IsTier z))
       → Searching most t 0 0 0
-  unfolding search chain
   search-starts most t s em et es h c =
-      let e : most - 0 ≡ tiers z = omega arith in
-      let f : t ≡ suc s = omega arith in
-      record { low = omega arith; tiersOf = rw (e, f) (c s h); is = rw (e, f, es) }
+      record {
+        done = [];
+        along = chain-starts z img (segmentOf settings key) em (et ∙ ap (λ (q : ℕ). q + 1) es);
+        tiersOf = rw es at (c s h);
+        passed = λ ts. refl;
+      }
 
   module _ {most t u i k : ℕ} (w : Searching most t u i k) where
+    all-passed : w .done ≡ chain z img (segmentOf settings key) → Absent u i ≡ search z img key
+    unfolding search
+    all-passed e = sym (ap (searchFrom z img key 0 0) (sym e ∙ sym (append-nil (w .done))) ∙ w .passed [] ∙ search-end z img key u i)
+
     pub searching-ends : t ≡ 0 → Absent u i ≡ search z img key
-    searching-ends e =
-        let f : searchFrom z img key u i (follow z img (most - k) t) ≡ search z img key = w .is in
-        sym (search-end z img key u i) ∙ (rw (e, follow-none z img (most - k)) at f)
+    searching-ends e = all-passed (chain-ends z img _ (w .along) e)
 
     pub searching-out : most ≤ k → Absent u i ≡ search z img key
-    unfolding follow
-    searching-out h =
-        let f : searchFrom z img key u i (follow z img (most - k) t) ≡ search z img key = w .is in
-        let e : most - k ≡ 0 = omega arith in
-        sym (search-end z img key u i) ∙ (rw e at f)
+    searching-out h = all-passed (chain-out z img _ (w .along) h)
 
     module _ (h : k < most) (ne : t ≢ 0) where
-      here : follow z img (most - k) t ≡ t ∷ follow z img (most - (k + 1)) (nextOf z img t)
-      here = let e : most - k ≡ suc (most - (k + 1)) = omega arith in rw e (follow-more z img (most - (k + 1)) t ne)
-
-      whole : searchFrom z img key u i (t ∷ follow z img (most - (k + 1)) (nextOf z img t)) ≡ search z img key
-      whole = let f : searchFrom z img key u i (follow z img (most - k) t) ≡ search z img key = w .is in rw here at f
-
       pub searching-tier : IsTier z t
-      searching-tier = rw here at (w .tiersOf) t (List·Memᴰ·head refl)
+      searching-tier = w .tiersOf t (chain-in z img _ (w .along) h ne)
 
-      pub searching-found : (j v : ℕ) → j ≡ seekIn z img key t → v ≡ slotAt z img t j → v ≢ 0 → At t j ≡ search z img key
-      searching-found j v ej ev n =
-          let f : slotAt z img t (seekIn z img key t) ≢ 0 = λ q. n (ev ∙ ap (slotAt z img t) ej ∙ q) in
-          ap (At t) ej ∙ sym (search-here z img key u i t _ f) ∙ whole
+      pub searching-found : (j : ℕ) → soughtIn z img key t ≡ Holds j → At t j ≡ search z img key
+      unfolding search
+      searching-found j f =
+          sym (ap (searchFrom z img key 0 0) (chain-splits z img _ (w .along) h ne) ∙ w .passed _ ∙ search-here z img key u i t j _ f)
 
-      pub searching-turns : (j v : ℕ) → j ≡ seekIn z img key t → v ≡ slotAt z img t j → v ≡ 0 → (n : ℕ) → n ≡ nextOf z img t → Searching most n t j (k + 1)
-      searching-turns j v ej ev e n en =
-          let f : slotAt z img t (seekIn z img key t) ≡ 0 = ap (slotAt z img t) (sym ej) ∙ sym ev ∙ e in
-          rw (en, ej)
-          (record {
-            low = omega arith;
-            tiersOf = λ x m. rw here at (w .tiersOf) x (List·Memᴰ·tail m);
-            is = sym (search-on z img key u i t _ f) ∙ whole;
-          })
+      pub searching-turns : (j : ℕ) → soughtIn z img key t ≡ Empty j → (n : ℕ) → n ≡ nextOf z img t → Searching most n t j (k + 1)
+      searching-turns j f n en =
+          record {
+            done = w .done ++ (t ∷ []);
+            along = chain-turns z img _ (w .along) h ne en;
+            tiersOf = w .tiersOf;
+            passed = λ ts. ap (searchFrom z img key 0 0) (append-snoc (w .done) t ts) ∙ w .passed (t ∷ ts) ∙ search-on z img key u i t j ts f;
+          }

@@ -4,13 +4,14 @@ use mathlib.Core.List.{List}
 use mathlib.Core.Path.{_≡_}
 use mathlib.Core.Logic.{_≢_}
 use native.Mathlib.Omega.{arith}
-use native.Mathlib.Nat.{mod-lt, one-le-pow}
+use native.Mathlib.Nat.{one-le-pow}
 use Rattle.layout.specs.declared.Shape.{Shape}
 use Rattle.layout.specs.Tiers.{IsTier}
 use Rattle.layout.specs.Places.{tier, slot, wide, partWide, get, put}
 use Rattle.layout.specs.Frame.{Framed, Image}
 use Rattle.layout.proofs.Places.{image-put, get-lt, get-same, get-other}
 use Rattle.probe.proofs.Table.{Lawful}
+use Rattle.entries.proofs.Hashes.{start-lt}
 use Rattle.search.specs.Search.{slotsOf}
 
 module _ {z : Shape} {len : ℕ} (framed : Framed z len) (t : ℕ) (is : IsTier z t) where
@@ -32,7 +33,7 @@ module _ {z : Shape} {len : ℕ} (framed : Framed z len) (t : ℕ) (is : IsTier 
         Ok = Image z;
         Fit = λ v. v < 256 ^ z .settings .slotSize;
         two = omega (arith, framed .valid .slots);
-        home-lt = λ v. mod-lt _ (omega (arith, framed .valid .slots));
+        start-lt = λ v. start-lt (framed .valid) _;
         fit-zero = one-le-pow (z .settings .slotSize) 256 (omega arith);
         fit-get = slot-fit;
         ok-put = λ img j v ok h f. image-put ok (tier t (slot j)) v;

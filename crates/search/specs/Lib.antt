@@ -1,2 +1,4 @@
 pub mod Search
 pub mod Rules
+pub mod Landing
+pub mod Asking

@@ -12,11 +12,6 @@ use Rattle.settings.specs.Decide.{between?}
 use Rattle.layout.specs.declared.Shape.{Shape}
 use Rattle.chains.specs.Chains.{chain}
 use Rattle.probe.specs.Ring.{dist}
-use Rattle.search.specs.declared.Found.the-variants.{At}
-use Rattle.search.specs.declared.rules.Slot.{Slot}
-use Rattle.search.specs.declared.rules.Slot.the-variants.{Fits}
-use Rattle.search.specs.declared.rules.Slot.the-variants as slot
-use Rattle.search.specs.Search.{search}
 use Rattle.entries.specs.declared.Stored.{Stored}
 use Rattle.entries.specs.declared.Stored.the-variants.{Whole, Broken}
 use Rattle.entries.specs.Keys.{KeyFits, segmentOf, lookupKey, start, slotKey, slotRest}
@@ -82,7 +77,7 @@ module _ (z : Shape) (img : List ℕ) where
     pub someEmpty : SomeEmpty t
     pub full : Below slots (λ j. slotAt z img t j ≢ 0 → EntryFits s t j)
 
-  pub record TierFits (s t : ℕ) : Type 0 where
+  pub record TierSlotsFit (s t : ℕ) : Type 0 where
     pub slotsFit : SlotsFit s t
     pub reached : Below slots (λ j. slotAt z img t j ≢ 0 → Reached t j)
 
@@ -93,25 +88,8 @@ module _ (z : Shape) (img : List ℕ) where
   abbrev pub KeysOnce : ℕ → Type 0
   KeysOnce s = Every (chain z img s) (λ t. Below slots (λ j. slotAt z img t j ≢ 0 → KeyOnce s t j))
 
-  -- each full slot's key is found in that slot: in one tier, and in segment s's chain. Where the slots fit one by one this says the same
-  -- as that every slot is reached and no key has two slots.
-  abbrev pub LandsIn : ℕ → Type 0
-  LandsIn t = Below slots (λ j. slotAt z img t j ≢ 0 → search z img (keyAt t j) ≡ At t j)
-
-  abbrev pub Lands : ℕ → Type 0
-  Lands s = Every (chain z img s) LandsIn
-
-  -- what is asked of one full slot of a tier in segment s's chain
-  abbrev pub SlotHolds : ℕ → ℕ → ℕ → Type 0
-  SlotHolds s t j = EntryFits s t j × (search z img (keyAt t j) ≡ At t j)
-
-  -- a full slot of which P is asked: P holds, with the chunks of its entry, or does not
-  abbrev pub SlotSays : Type 0 → ℕ → ℕ → Slot → Type 0
-  SlotSays P t j (Fits c n) = P × ((c ≡ chunkOf z img t j) × (n ≡ chunksAt t j))
-  SlotSays P t j slot.Broken = P → ⊥
-
   pub record EntriesFit : Type 0 where
-    pub tiersFit : Below segments (λ s. Every (chain z img s) (TierFits s))
+    pub tiersFit : Below segments (λ s. Every (chain z img s) (TierSlotsFit s))
     pub keysOnce : Below segments KeysOnce
 
   -- ---- decided
@@ -151,8 +129,8 @@ module _ (z : Shape) (img : List ℕ) where
       rule (λ v. v .full) (below? (λ j. slotAt z img t j ≢ 0 → EntryFits s t j) (λ j. implied (full? t j) (λ _. entryFits? s t j)) slots) λ b.
       yes (record { someEmpty = a; full = b })
 
-  unfoldable pub tierFits? : (s t : ℕ) → Dec (TierFits s t)
-  tierFits? s t =
+  unfoldable pub tierSlotsFit? : (s t : ℕ) → Dec (TierSlotsFit s t)
+  tierSlotsFit? s t =
       rule (λ v. v .slotsFit) (slotsFit? s t) λ a.
       rule (λ v. v .reached) (below? (λ j. slotAt z img t j ≢ 0 → Reached t j) (λ j. implied (full? t j) (λ _. reached? t j)) slots) λ b.
       yes (record { slotsFit = a; reached = b })
@@ -171,6 +149,7 @@ module _ (z : Shape) (img : List ℕ) where
 
   unfoldable pub entriesFit? : Dec EntriesFit
   entriesFit? =
-      rule (λ v. v .tiersFit) (below? (λ s. Every (chain z img s) (TierFits s)) (λ s. every? (TierFits s) (tierFits? s) (chain z img s)) segments) λ a.
+      rule (λ v. v .tiersFit)
+      (below? (λ s. Every (chain z img s) (TierSlotsFit s)) (λ s. every? (TierSlotsFit s) (tierSlotsFit? s) (chain z img s)) segments) λ a.
       rule (λ v. v .keysOnce) (below? KeysOnce keysOnce? segments) λ b.
       yes (record { tiersFit = a; keysOnce = b })

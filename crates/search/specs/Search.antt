@@ -11,6 +11,8 @@ use Rattle.layout.specs.Places.{get, put, tier, slot}
 use Rattle.chains.specs.Chains.{chain}
 use Rattle.probe.specs.Table.{Table}
 use Rattle.probe.specs.Search.{seek}
+use Rattle.search.specs.declared.Sought.{Sought}
+use Rattle.search.specs.declared.Sought.the-variants.{Holds, Empty}
 use Rattle.search.specs.declared.Found.{Found}
 use Rattle.search.specs.declared.Found.the-variants.{At, Absent}
 use Rattle.entries.specs.Keys.{segmentOf, lookupKey, start, slotKey, slotChunk}
@@ -22,7 +24,7 @@ abbrev pub slotsOf : Shape → ℕ → Table (List ℕ)
 slotsOf z t =
     record {
       size = z .settings .slots;
-      home = λ v. start (z .settings) (slotKey (z .settings) v);
+      start = λ v. start (z .settings) (slotKey (z .settings) v);
       get = λ img j. get z img (tier t (slot j));
       put = λ img j v. put z img (tier t (slot j)) v;
     }
@@ -38,10 +40,15 @@ module _ (z : Shape) (img key : List ℕ) where
   unfoldable pub seekIn : ℕ → ℕ
   seekIn t = seek (slotsOf z t) (hits t) img (start settings (lookupKey settings key))
 
+  -- what it finds there. A tier has an empty slot (refusal 6); in one without, and without the key, every slot is met and the search ends
+  -- at its start slot, which holds another key.
+  unfoldable pub soughtIn : ℕ → Sought
+  soughtIn t = elim (eqb (slotAt z img t (seekIn t)) 0) [ true ↦ Empty (seekIn t) | false ↦ Holds (seekIn t) ]
+
   -- the tiers that are left, after a search that ended empty at slot j of tier u
   unfoldable pub searchFrom : ℕ → ℕ → List ℕ → Found
   searchFrom u j [] = Absent u j
-  searchFrom u j (t ∷ ts) = elim (eqb (slotAt z img t (seekIn t)) 0) [ true ↦ searchFrom t (seekIn t) ts | false ↦ At t (seekIn t) ]
+  searchFrom u j (t ∷ ts) = elim (soughtIn t) [ Empty i ↦ searchFrom t i ts | Holds i ↦ At t i ]
 
   unfoldable pub search : Found
   search = searchFrom 0 0 (chain z img (segmentOf settings key))

@@ -5,17 +5,16 @@ use entries::Stored;
 use layout::Shape;
 use probe::Cursor;
 ghost use mathlib.Core.Path.{_≡_};
-ghost use mathlib.Core.Logic.{_≢_};
-ghost use Prim.Native.Nat.{_<_, _≤_};
-ghost use lib.ListN.{length};
 ghost use Rattle.lists.specs.Decide.{Decides};
-ghost use Rattle.layout.specs.Tiers.{IsTier};
-ghost use Rattle.layout.specs.Frame.{Framed};
-ghost use Rattle.entries.specs.Keys.{segmentOf, lookupKey};
-ghost use Rattle.entries.specs.Live.{slotAt};
-ghost use Rattle.search.specs.declared.Found.the-variants.{At as Found·At};
-ghost use Rattle.search.specs.Search.{hits as Search·hits, seekIn, search as Search·search, ChainTiers};
-ghost use Rattle.search.specs.Rules.{EntriesFit};
+ghost use Rattle.search.specs.Search.{hits as Search·hits, soughtIn, search as Search·search};
+ghost use Rattle.search.specs.Landing.{FoundIn};
+ghost use Rattle.search.specs.Asking.{Seeks, FramedChains, SoughtAt};
+
+// Where the search for a key ends in one tier: at the slot that holds it, or at an empty slot.
+pub enum Sought {
+    Holds(usize),
+    Empty(usize),
+}
 
 // Where the search for a key ended: at the tier and slot that hold it, or at the empty slot of the last tier.
 pub enum Found {
@@ -25,7 +24,7 @@ pub enum Found {
 
 // Whether a full slot of tier t that holds v stands for the key: never by the lookup key alone.
 fn hits(z: Shape, img: &[u8], key: &[u8], lookup: u64, t: usize, v: u64) -> bool
-    requires { ⌜ Framed z (length (now img)) × IsTier z t × (lookup ≡ lookupKey (z .settings) (now key)) ⌝ }
+    requires { ⌜ Seeks z (now img) (now key) lookup t ⌝ }
     ensures { λ r. ⌜ r ≡ Search·hits z (now (img .entry)) (now (key .entry)) t v ⌝ }
 {
     let st = z.settings;
@@ -38,10 +37,10 @@ fn hits(z: Shape, img: &[u8], key: &[u8], lookup: u64, t: usize, v: u64) -> bool
     entries::read::same_key(img, e.keyAt, e.keyLength, key)
 }
 
-// Where the search in tier t ends: at a slot that stands for the key, or at an empty one.
-fn seek(z: Shape, img: &[u8], key: &[u8], lookup: u64, t: usize) -> usize
-    requires { ⌜ Framed z (length (now img)) × IsTier z t × (lookup ≡ lookupKey (z .settings) (now key)) ⌝ }
-    ensures { λ r. ⌜ (r ≡ seekIn z (now (img .entry)) (now (key .entry)) t) × (r < z .settings .slots) ⌝ }
+// The search in tier t.
+pub fn seek(z: Shape, img: &[u8], key: &[u8], lookup: u64, t: usize) -> Sought
+    requires { ⌜ Seeks z (now img) (now key) lookup t ⌝ }
+    ensures { λ r. ⌜ r ≡ soughtIn z (now (img .entry)) (now (key .entry)) t ⌝ }
 {
     let st = z.settings;
     let mut cursor = Cursor {
@@ -52,20 +51,21 @@ fn seek(z: Shape, img: &[u8], key: &[u8], lookup: u64, t: usize) -> usize
     while 0 < left {
         let v = layout::read::slot(z, img, t, cursor.slot);
         if v == 0 {
-            return cursor.slot;
+            return Sought::Empty(cursor.slot);
         }
         if hits(z, img, key, lookup, t, v) {
-            return cursor.slot;
+            return Sought::Holds(cursor.slot);
         }
         cursor = cursor.step();
         left -= 1;
     }
-    cursor.slot
+    // no slot is empty, and none stands for the key
+    Sought::Holds(cursor.slot)
 }
 
 // The search for a key through the chain of its segment.
 pub fn search(z: Shape, img: &[u8], key: &[u8]) -> Found
-    requires { ⌜ Framed z (length (now img)) × ChainTiers z (now img) ⌝ }
+    requires { ⌜ FramedChains z (now img) ⌝ }
     ensures { λ r. ⌜ r ≡ Search·search z (now (img .entry)) (now (key .entry)) ⌝ }
 {
     let h = xxh64::xxh64(key);
@@ -79,10 +79,15 @@ pub fn search(z: Shape, img: &[u8], key: &[u8]) -> Found
         if t == 0 {
             return Found::Absent(tier, slot);
         }
-        tier = t;
-        slot = seek(z, img, key, lookup, t);
-        if layout::read::slot(z, img, t, slot) != 0 {
-            return Found::At(tier, slot);
+        let sought = seek(z, img, key, lookup, t);
+        match sought {
+            Sought::Holds(j) => {
+                return Found::At(t, j);
+            }
+            Sought::Empty(j) => {
+                tier = t;
+                slot = j;
+            }
         }
         t = layout::read::next_of(z, img, t) as usize;
         k += 1;
@@ -92,8 +97,8 @@ pub fn search(z: Shape, img: &[u8], key: &[u8]) -> Found
 
 // Whether that search, for a key of segment s that is in tier t, comes to tier t: whether it ends empty in each tier before.
 fn comes_to(z: Shape, img: &[u8], key: &[u8], lookup: u64, s: usize, t: usize) -> bool
-    requires { ⌜ Framed z (length (now img)) × ChainTiers z (now img) × (s < z .settings .segments) × IsTier z t × (s ≡ segmentOf (z .settings) (now key)) × (lookup ≡ lookupKey (z .settings) (now key)) × (slotAt z (now img) t (seekIn z (now img) (now key) t) ≢ 0) ⌝ }
-    ensures { λ r. ⌜ Decides r (Search·search z (now (img .entry)) (now (key .entry)) ≡ Found·At t (seekIn z (now (img .entry)) (now (key .entry)) t)) ⌝ }
+    requires { ⌜ SoughtAt z (now img) (now key) lookup s t ⌝ }
+    ensures { λ r. ⌜ Decides r (FoundIn z (now (img .entry)) (now (key .entry)) t) ⌝ }
 {
     let most = layout::tier_count(z);
     let mut u = s + 1;
@@ -105,10 +110,9 @@ fn comes_to(z: Shape, img: &[u8], key: &[u8], lookup: u64, s: usize, t: usize) -
         if u == 0 {
             return false;
         }
-        let i = seek(z, img, key, lookup, u);
-        if layout::read::slot(z, img, u, i) != 0 {
+        let Sought::Empty(_) = seek(z, img, key, lookup, u) else {
             return false;
-        }
+        };
         u = layout::read::next_of(z, img, u) as usize;
         k += 1;
     }

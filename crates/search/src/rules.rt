@@ -4,18 +4,13 @@ use entries::Stored;
 use layout::Shape;
 use probe::Cursor;
 ghost use mathlib.Core.Path.{_≡_};
-ghost use mathlib.Core.Logic.{_≢_};
-ghost use Prim.Native.Nat.{_+_, _<_, _≤_};
-ghost use lib.ListN.{length};
 ghost use Rattle.lists.specs.Decide.{Decides};
-ghost use Rattle.layout.specs.Tiers.{IsTier};
-ghost use Rattle.layout.specs.Frame.{Framed};
-ghost use Rattle.entries.specs.Keys.{lookupKey};
-ghost use Rattle.entries.specs.Live.{slotAt};
+ghost use Rattle.layout.specs.FramedTier.{FramedTier, FramedSlot};
 ghost use Rattle.entries.specs.Stored.{keyOf};
-ghost use Rattle.search.specs.declared.Found.the-variants.{At as Found·At};
-ghost use Rattle.search.specs.Search.{ChainTiers, hits, seekIn, search as Search·search};
-ghost use Rattle.search.specs.Rules.{Hashed, EntryFits, SomeEmpty, keyAt, SlotHolds, SlotSays};
+ghost use Rattle.search.specs.Search.{hits, seekIn};
+ghost use Rattle.search.specs.Rules.{Hashed, EntryFits, SomeEmpty, keyAt};
+ghost use Rattle.search.specs.Landing.{LandsAt, SlotHolds, SlotSays};
+ghost use Rattle.search.specs.Asking.{HasKey, KeyOfSlot, FullSlot, FittingSlot};
 
 // A full slot that meets what is asked of it, with the chunks that its entry covers, the first and how many; or one that does not.
 pub enum Slot {
@@ -25,7 +20,7 @@ pub enum Slot {
 
 // Whether a stored key has the hash parts that its slot and its segment say.
 fn hash_agrees(z: Shape, img: &[u8], s: usize, v: u64, e: Entry) -> bool
-    requires { ⌜ Framed z (length (now img)) × (e .keyAt + e .keyLength ≤ length (now img)) ⌝ }
+    requires { ⌜ HasKey z (now img) e ⌝ }
     ensures { λ r. ⌜ Decides r (Hashed (z .settings) s v (keyOf (now (img .entry)) e)) ⌝ }
 {
     let st = z.settings;
@@ -43,7 +38,7 @@ fn hash_agrees(z: Shape, img: &[u8], s: usize, v: u64, e: Entry) -> bool
 
 // Whether the entry of the full slot j, of a tier in segment s's chain, fits.
 fn entry_fits(z: Shape, img: &[u8], s: usize, t: usize, j: usize) -> Slot
-    requires { ⌜ Framed z (length (now img)) × IsTier z t × (j < z .settings .slots) × (slotAt z (now img) t j ≢ 0) ⌝ }
+    requires { ⌜ FramedSlot z (now img) t j ⌝ }
     ensures { λ r. ⌜ SlotSays z (now (img .entry)) (EntryFits z (now (img .entry)) s t j) t j r ⌝ }
 {
     let st = z.settings;
@@ -76,7 +71,7 @@ fn entry_fits(z: Shape, img: &[u8], s: usize, t: usize, j: usize) -> Slot
 
 // Whether some slot of a tier is empty.
 pub fn some_empty(z: Shape, img: &[u8], t: usize) -> bool
-    requires { ⌜ Framed z (length (now img)) × IsTier z t ⌝ }
+    requires { ⌜ FramedTier z (now img) t ⌝ }
     ensures { λ r. ⌜ Decides r (SomeEmpty z (now (img .entry)) t) ⌝ }
 {
     let mut j = 0;
@@ -91,7 +86,7 @@ pub fn some_empty(z: Shape, img: &[u8], t: usize) -> bool
 
 // Whether a full slot of tier t that holds v stands for the key of slot j.
 fn same_hit(z: Shape, img: &[u8], s: usize, t: usize, j: usize, v: u64, lookup: u64) -> bool
-    requires { ⌜ Framed z (length (now img)) × IsTier z t × (j < z .settings .slots) × EntryFits z (now img) s t j × (lookup ≡ lookupKey (z .settings) (keyAt z (now img) t j)) ⌝ }
+    requires { ⌜ KeyOfSlot z (now img) s t j lookup ⌝ }
     ensures { λ r. ⌜ r ≡ hits z (now (img .entry)) (keyAt z (now (img .entry)) t j) t v ⌝ }
 {
     let e = entries::read::entry_at(z, img, t, j);
@@ -102,7 +97,7 @@ fn same_hit(z: Shape, img: &[u8], s: usize, t: usize, j: usize, v: u64, lookup: 
 
 // Whether the search for the key of the full slot j, in its tier t, ends there. The slot itself is not compared with its own key.
 fn ends_at(z: Shape, img: &[u8], s: usize, t: usize, j: usize, lookup: u64) -> bool
-    requires { ⌜ Framed z (length (now img)) × IsTier z t × (j < z .settings .slots) × (slotAt z (now img) t j ≢ 0) × EntryFits z (now img) s t j × (lookup ≡ lookupKey (z .settings) (keyAt z (now img) t j)) ⌝ }
+    requires { ⌜ KeyOfSlot z (now img) s t j lookup ⌝ }
     ensures { λ r. ⌜ Decides r (seekIn z (now (img .entry)) (keyAt z (now (img .entry)) t j) t ≡ j) ⌝ }
 {
     let mut cursor = Cursor {
@@ -126,8 +121,8 @@ fn ends_at(z: Shape, img: &[u8], s: usize, t: usize, j: usize, lookup: u64) -> b
 
 // Whether the search for the key of the full slot j of tier t, whose entry fits, ends at that slot.
 fn lands(z: Shape, img: &[u8], s: usize, t: usize, j: usize) -> bool
-    requires { ⌜ Framed z (length (now img)) × ChainTiers z (now img) × (s < z .settings .segments) × IsTier z t × (j < z .settings .slots) × (slotAt z (now img) t j ≢ 0) × EntryFits z (now img) s t j ⌝ }
-    ensures { λ r. ⌜ Decides r (Search·search z (now (img .entry)) (keyAt z (now (img .entry)) t j) ≡ Found·At t j) ⌝ }
+    requires { ⌜ FittingSlot z (now img) s t j ⌝ }
+    ensures { λ r. ⌜ Decides r (LandsAt z (now (img .entry)) t j) ⌝ }
 {
     // the lookup key is the key's: the slot fits
     let lookup = entries::keys::slot_key(z.settings, layout::read::slot(z, img, t, j));
@@ -146,7 +141,7 @@ fn lands(z: Shape, img: &[u8], s: usize, t: usize, j: usize) -> bool
 // Whether the full slot j, of a tier in segment s's chain, meets the rules of slots and entries: its entry fits, and the search for
 // its key ends in it.
 pub fn slot_fits(z: Shape, img: &[u8], s: usize, t: usize, j: usize) -> Slot
-    requires { ⌜ Framed z (length (now img)) × ChainTiers z (now img) × (s < z .settings .segments) × IsTier z t × (j < z .settings .slots) × (slotAt z (now img) t j ≢ 0) ⌝ }
+    requires { ⌜ FullSlot z (now img) s t j ⌝ }
     ensures { λ r. ⌜ SlotSays z (now (img .entry)) (SlotHolds z (now (img .entry)) s t j) t j r ⌝ }
 {
     let found = entry_fits(z, img, s, t, j);

@@ -26,11 +26,11 @@ use Rattle.entries.specs.declared.Stored.the-variants.{Whole, Broken}
 use Rattle.entries.specs.Keys.{KeyFits, segmentOf, lookupKey, start, slotChunk, slotKey, slotRest}
 use Rattle.entries.specs.Stored.{stored, entryOf, keyOf, valueOf, entrySize, chunksFor}
 use Rattle.entries.specs.Live.{slotAt, entryAt, fullSlots, liveAt, liveIn}
-use Rattle.entries.proofs.Sizes.{ceil-enough}
+use Rattle.lists.proofs.Numbers.{ceil-enough}
 use Rattle.entries.proofs.Whole.{WholeAt, whole-sound, stored-ext, key-before}
 use Rattle.entries.proofs.LiveLists.{fullSlots-in, live-made}
 use Rattle.probe.specs.Ring.{dist}
-use Rattle.search.specs.Rules.{IsWhole, keyAt, EntryFits, SomeEmpty, SlotsFit, TierFits}
+use Rattle.search.specs.Rules.{IsWhole, keyAt, EntryFits, SomeEmpty, SlotsFit, TierSlotsFit}
 use Rattle.chunks.specs.Chunks.{covers, clear, lowestClear, MarksFit, CountersFit, FreeTierFits}
 use Rattle.chunks.proofs.LowMark.{low-mark-same}
 use Rattle.upkeep.specs.Sound.{Pair}
@@ -183,7 +183,7 @@ module _ (z : Shape) (img img′ : List ℕ) (u : ℕ) where
         same-map (liveAt z img′ s u) (liveAt z img s u) (fullSlots z img′ u) (λ j m. same-liveAt s j (fullSlots-in z img′ u j m .0))
         ∙ ap (map (liveAt z img s u)) same-full
 
-    pub same-tier-fits : (s : ℕ) → TierFits z img s u → TierFits z img′ s u
+    pub same-tier-fits : (s : ℕ) → TierSlotsFit z img s u → TierSlotsFit z img′ s u
     same-tier-fits s f =
         let some : SomeEmpty z img u = f .slotsFit .someEmpty in
         record {

@@ -1,5 +1,5 @@
 -- No key stands twice in a sound image, and its pairs are those of its live entries.
-use Prim.Native.Nat.{ℕ, zero, suc, _+_, _≤_, _<_}
+use Prim.Native.Nat.{ℕ, _+_, _≤_, _<_}
 use mathlib.Core.List.{List, List·Memᴰ, Memᴰ·map, Memᴰ·of-map}
 use mathlib.Core.Path.{_≡_, sym, _∙_, subst}
 use mathlib.Core.Logic.{⊎-elim, _≢_}
@@ -14,8 +14,7 @@ use Rattle.words.proofs.Bytes.{same-true}
 use Rattle.settings.specs.declared.Settings.{Settings}
 use Rattle.layout.specs.declared.Shape.{Shape}
 use Rattle.chains.specs.Chains.{chain, chained}
-use Rattle.probe.specs.Table.{Table, total as Table·total}
-use Rattle.probe.proofs.Table.{total-found}
+use Rattle.probe.proofs.Table.{slotTotal-found, slotTotal-once}
 use Rattle.entries.specs.declared.Live.{Live}
 use Rattle.entries.specs.Keys.{segmentOf}
 use Rattle.entries.specs.Live.{slotAt, entryAt, live}
@@ -25,7 +24,7 @@ use Rattle.upkeep.specs.Sound.{Pair, pairOf, pairsOf, SoundImage}
 use Rattle.upkeep.proofs.Values.{pairFor, ifFull, weigh}
 use Rattle.lists.proofs.Totals.{total-change, total-zero, total-some}
 use Rattle.upkeep.proofs.Sums.{pairs-total}
-use Rattle.upkeep.proofs.Chained.{chained-once, chained-in}
+use Rattle.chains.proofs.Chained.{chained-once, chained-in}
 
 -- 1 for a pair with this key, 0 for another
 unfoldable pub withKey : List ℕ → Pair → ℕ
@@ -41,26 +40,6 @@ with-found key p h =
     by-test (same (p .key) key)
     (λ t. same-true (p .key) key t)
     (λ t. let k : 0 < 0 = rw (t, withKey) at h in absurd (omega arith))
-
--- ---- sums to which one element adds
-
--- no slot adds more than 1, and two slots that add are the same
-table-once : {M : Type 0} (𝓣 : Table M) (f : ℕ → ℕ) (m : M) (n : ℕ) → ((v : ℕ) → f v ≤ 1)
-    → ((j k : ℕ) → j < n → k < n → 0 < f (𝓣 .get m j) → 0 < f (𝓣 .get m k) → j ≡ k) → Table·total 𝓣 f m n ≤ 1
-unfolding Table·total
-table-once 𝓣 f m zero few one = omega arith
-table-once 𝓣 f m (suc n) few one =
-    ⊎-elim
-    (λ (e : f (𝓣 .get m n) ≡ 0). omega (arith, table-once 𝓣 f m n few (λ j k hj hk. one j k (omega arith) (omega arith))))
-    (λ (e : f (𝓣 .get m n) ≢ 0).
-    ⊎-elim
-    (λ (z : Table·total 𝓣 f m n ≡ 0). omega (arith, few (𝓣 .get m n)))
-    (λ (z : Table·total 𝓣 f m n ≢ 0).
-    let r : (j : ℕ) × (j < n) × (0 < f (𝓣 .get m j)) = total-found 𝓣 f m n (omega arith) in
-    let same : r .0 ≡ n = one (r .0) n (omega (arith, r .1)) (omega arith) (r .2) (omega arith) in
-    absurd (omega (arith, r .1, same)))
-    (same-or (Table·total 𝓣 f m n) 0))
-    (same-or (f (𝓣 .get m n)) 0)
 
 -- ---- a key in an image
 
@@ -114,13 +93,13 @@ module _ (z : Shape) (img : List ℕ) (sound : SoundImage z img) (key : List ℕ
   weigh-le : (s t : ℕ) → s < segments → List·Memᴰ t (chain z img s) → weigh z img (withKey key) t ≤ 1
   unfolding weigh
   weigh-le s t hs m =
-      table-once (slotsOf z t) (adds t) img slots (adds-le t)
+      slotTotal-once (slotsOf z t) (adds t) img slots (adds-le t)
       (λ j k hj hk a b. holds-once (adds-holds s t j hs m hj a) (adds-holds s t k hs m hk b) .1)
 
   weigh-holds : (s t : ℕ) → s < segments → List·Memᴰ t (chain z img s) → 0 < weigh z img (withKey key) t → (j : ℕ) × Holds s t j
   unfolding weigh
   weigh-holds s t hs m h =
-      let r : (j : ℕ) × (j < slots) × (0 < adds t (slotAt z img t j)) = total-found (slotsOf z t) (adds t) img slots h in
+      let r : (j : ℕ) × (j < slots) × (0 < adds t (slotAt z img t j)) = slotTotal-found (slotsOf z t) (adds t) img slots h in
       (r .0, adds-holds s t (r .0) hs m (r .1) (r .2))
 
   -- every other tier adds nothing, so that this one gives the whole sum

@@ -1,8 +1,6 @@
 -- What edits keep: laws of agreement, of sums over the live entries, of a tier that is changed and recounted.
 pub mod Values
 pub mod Sums
-pub mod Chained
-pub mod Counts
 pub mod AgreeTier
 pub mod AgreeChains
 pub mod Sound

@@ -1,18 +1,17 @@
 -- The marked chunks of a sound image are as many as its pairs need.
 use Prim.Native.Nat.{ℕ, zero, suc, _+_, _≤_, _<_}
-use mathlib.Core.List.{List, [], _∷_, flatMap, List·Memᴰ, List·Memᴰ·head, List·Memᴰ·tail}
-use mathlib.Core.Path.{_≡_, refl, ap, sym, _∙_}
-use mathlib.Core.Logic.{⊎-elim, _≢_}
+use mathlib.Core.List.{List, [], _∷_, flatMap, List·Memᴰ}
+use mathlib.Core.Path.{_≡_, refl, sym, _∙_}
+use mathlib.Core.Logic.{_≢_}
 use native.Mathlib.Omega.{arith}
 use native.Mathlib.Numerals.{add-one}
-use lib.Dec.{eqb, ltb}
+use lib.Dec.{ltb}
 use lib.ListN.{length, length-append}
-use borrow.Author.Tests.{eq-eqb, ne-eqb, lt-ltb, le-ltb}
-use Rattle.lists.specs.Cases.{lt-or, same-or}
-use Rattle.lists.specs.Lists.{those, howMany, total}
+use Rattle.lists.specs.Lists.{howMany, total}
 use Rattle.lists.specs.Quantify.{Below, Every}
 use Rattle.lists.proofs.Lists.{span-in, length-span}
 use Rattle.lists.proofs.Members.{flatMap-in}
+use Rattle.lists.proofs.Counted.{howMany-ltb-more, howMany-ltb-zero, howMany-ltb-all}
 use Rattle.words.proofs.Bytes.{length-cut}
 use Rattle.settings.specs.declared.Settings.{Settings}
 use Rattle.layout.specs.declared.Shape.{Shape}
@@ -37,34 +36,9 @@ use Rattle.upkeep.specs.Sound.{Pair, pairsOf, SoundImage}
 use Rattle.upkeep.proofs.Values.{pairFor, weigh}
 use Rattle.lists.proofs.Totals.{total-same}
 use Rattle.upkeep.proofs.Sums.{liveIn-total, pairs-total}
-use Rattle.upkeep.proofs.Chained.{chained-in, chain-in-tiers}
+use Rattle.chains.proofs.Chained.{chained-in}
+use Rattle.chains.proofs.Tiers.{chain-tiers}
 use Rattle.upkeep.proofs.Sound.{sound-image}
-
--- ---- numbers below a bound, counted one by one
-
-below-more : (n : ℕ) (xs : List ℕ) → howMany xs (λ x. ltb x (n + 1)) ≡ howMany xs (λ x. ltb x n) + howMany xs (eqb n)
-unfolding those
-below-more n [] = refl
-below-more n (x ∷ xs) =
-    ⊎-elim
-    (λ (e : n ≡ x).
-    rw (eq-eqb n x e, lt-ltb x (n + 1) (omega arith), le-ltb x n (omega arith), those) (omega (arith, below-more n xs)))
-    (λ (e : n ≢ x).
-    ⊎-elim
-    (λ (l : x < n). rw (ne-eqb n x e, lt-ltb x (n + 1) (omega arith), lt-ltb x n l, those) (omega (arith, below-more n xs)))
-    (λ (l : n ≤ x). rw (ne-eqb n x e, le-ltb x (n + 1) (omega arith), le-ltb x n l, those) (below-more n xs))
-    (lt-or x n))
-    (same-or n x)
-
-below-none : (xs : List ℕ) → howMany xs (λ x. ltb x 0) ≡ 0
-unfolding those
-below-none [] = refl
-below-none (x ∷ xs) = rw (le-ltb x 0 (omega arith), those) (below-none xs)
-
-below-all : (n : ℕ) (xs : List ℕ) → Every xs (λ x. x < n) → howMany xs (λ x. ltb x n) ≡ length xs
-unfolding those
-below-all n [] f = refl
-below-all n (x ∷ xs) f = rw (lt-ltb x n (f x (List·Memᴰ·head refl)), those) (ap suc (below-all n xs (λ y m. f y (List·Memᴰ·tail m))))
 
 -- ---- the chunks of several entries
 
@@ -88,16 +62,17 @@ module _ (z : Shape) (img : List ℕ) where
 
   marked-chunks : (t : ℕ) (es : List Live) → Below chunks (λ i. howMany es (covers i) ≡ mark z img t i)
       → (n : ℕ) → n ≤ chunks → markedBelow z img t n ≡ howMany (chunksOfAll es) (λ x. ltb x n)
-  marked-chunks t es f zero h = marked-none z img t ∙ sym (below-none (chunksOfAll es))
+  marked-chunks t es f zero h = marked-none z img t ∙ sym (howMany-ltb-zero (chunksOfAll es))
   marked-chunks t es f (suc n) h =
       let e : markedBelow z img t (n + 1) ≡ howMany (chunksOfAll es) (λ x. ltb x (n + 1)) =
-      omega (arith, marked-more z img t n, below-more n (chunksOfAll es), covered-by n es, f n (omega arith), marked-chunks t es f n (omega arith)) in
+      omega (arith, marked-more z img t n, howMany-ltb-more n (chunksOfAll es), covered-by n es, f n (omega arith), marked-chunks t es f n (omega arith)) in
       rw add-one at e
 
   marked-tier : (t : ℕ) (es : List Live) → Below chunks (λ i. howMany es (covers i) ≡ mark z img t i) → Every es (λ e. e .chunk + e .chunks ≤ chunks)
       → markedIn z img t ≡ total es (λ e. e .chunks)
   marked-tier t es f g =
-      sym (marked-all z img t) ∙ marked-chunks t es f chunks (omega arith) ∙ below-all chunks (chunksOfAll es) (chunks-below chunks es g) ∙ length-chunks es
+      sym (marked-all z img t) ∙ marked-chunks t es f chunks (omega arith)
+      ∙ howMany-ltb-all chunks (chunksOfAll es) (chunks-below chunks es g) ∙ length-chunks es
 
   -- ---- what one entry needs
 
@@ -141,7 +116,7 @@ module _ (z : Shape) (img : List ℕ) where
   unfolding weigh
   tier-needs s t sound hs m =
       let fits : SlotsFit z img s t = sound .fits .entries .tiersFit s hs t m .slotsFit in
-      let it : IsTier z t = chain-in-tiers z img (sound .fits .chains) s t hs m in
+      let it : IsTier z t = chain-tiers z img (sound .fits .chains) s hs t m in
       marked-tier t (liveIn z img s t) (sound .fits .chunks .tiersFit s hs t m .marks) (entry-ends s t fits)
       ∙ liveIn-total z img s t (λ e. e .chunks) (λ v. needs (pairFor z img t v))
       (λ j hj full. entry-needs s t j (sound-image z img sound) it (fits .full j hj full))

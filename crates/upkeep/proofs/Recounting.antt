@@ -12,9 +12,9 @@ use Rattle.words.specs.Bits.{bitOf}
 use Rattle.settings.specs.declared.Settings.{Settings}
 use Rattle.layout.specs.declared.Shape.{Shape}
 use Rattle.layout.specs.Tiers.{IsTier}
-use Rattle.layout.specs.Places.{Global, bulkCount, firstFree, usedTiers, headersOffset, storeSize, globalNo, entryCount, lowestFree, nextTier, Counter, next, low, count, previous, segment, order, Place, global, tier, slot, counter, free, byte, counterNo, In, get, put, nextPlace, lowPlace, countPlace, _≔_, puts}
+use Rattle.layout.specs.Places.{Global, firstFree, usedTiers, entryCount, lowestFree, nextTier, Counter, next, low, count, previous, segment, order, Place, global, tier, slot, counter, free, byte, counterNo, In, get, put, nextPlace, lowPlace, countPlace, _≔_, puts}
 use Rattle.layout.specs.Frame.{Image}
-use Rattle.layout.proofs.Places.{written, get-same, get-other, get-puts-other, image-put, image-puts, length-puts, shared-in, shared-never, shared-slot, shared-free, shared-byte, shared-tiers, shared-fields}
+use Rattle.layout.proofs.Places.{written, get-same, get-other, get-puts-other, image-put, image-puts, length-puts, shared-in, shared-never, shared-slot, shared-free, shared-byte, shared-tiers, shared-fields, global-lt}
 use Rattle.layout.proofs.Marks.{mark-get}
 use Rattle.layout.proofs.Chunks.{cut-chunks}
 use Rattle.chains.specs.Chains.{chain}
@@ -23,8 +23,8 @@ use Rattle.chunks.specs.Chunks.{lowestClear, CountersFit}
 use Rattle.chunks.proofs.LowMark.{low-mark-exact}
 use Rattle.upkeep.specs.Sound.{Pair, pairsOf, SoundImage, SoundBut}
 use Rattle.upkeep.specs.Recount.{recount, settle}
+use Rattle.chains.proofs.Tiers.{chain-tiers}
 use Rattle.upkeep.proofs.Sound.{sound-image, but-sound}
-use Rattle.upkeep.proofs.Chained.{chain-in-tiers}
 use Rattle.upkeep.proofs.CountRoom.{count-room, low-room, full-few, lowest-few}
 use Rattle.upkeep.proofs.AgreeTier.{SameTier, same-full, same-lowest, same-weigh}
 use Rattle.upkeep.proofs.AgreeChains.{SameChains, same-chain}
@@ -34,13 +34,6 @@ use Rattle.upkeep.proofs.Replaced.{OnlyTier, tier-stays, tier-replaced,
 
 drop-other : {t u : ℕ} {ts : List ℕ} → u ≢ t → List·Memᴰ u (t ∷ ts) → List·Memᴰ u ts
 drop-other ne m = ⊎-elim (λ e. absurd (ne e)) (λ k. k) (List·Memᴰ·cases-cons m)
-
-global-lt : (f : Global) → globalNo f < 5
-global-lt bulkCount = omega arith
-global-lt firstFree = omega arith
-global-lt usedTiers = omega arith
-global-lt headersOffset = omega arith
-global-lt storeSize = omega arith
 
 module _ (z : Shape) (img : List ℕ) (s t : ℕ) (hs : s < z .settings .segments) {but : List ℕ} (sound : SoundBut z img (t ∷ but))
     (m : List·Memᴰ t (chain z img s)) where
@@ -54,7 +47,7 @@ module _ (z : Shape) (img : List ℕ) (s t : ℕ) (hs : s < z .settings .segment
   im = sound-image z img sound
 
   it : IsTier z t
-  it = chain-in-tiers z img (sound .fits .chains) s t hs m
+  it = chain-tiers z img (sound .fits .chains) s hs t m
 
   long : length after ≡ length img
   unfolding recount

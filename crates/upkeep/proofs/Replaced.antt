@@ -15,15 +15,15 @@ use Rattle.layout.specs.Places.{Global, bulkCount, headersOffset, storeSize, ge
 use Rattle.layout.specs.Frame.{Image}
 use Rattle.layout.proofs.Frames.{shape-same, fits-same}
 use Rattle.chains.specs.Chains.{chain, freeChain, chained}
-use Rattle.chains.proofs.Along.{free-tiers}
 use Rattle.entries.specs.Live.{slotAt}
-use Rattle.search.specs.Rules.{keyAt, TierFits, KeyOnce, KeysOnce, EntriesFit}
+use Rattle.search.specs.Rules.{keyAt, KeyOnce, KeysOnce, EntriesFit, TierSlotsFit}
 use Rattle.chunks.specs.Chunks.{MarksFit, CountersFit}
 use Rattle.upkeep.specs.Sound.{Pair, pairsOf, SoundBut}
 use Rattle.upkeep.proofs.Values.{weigh}
 use Rattle.lists.proofs.Totals.{total-change}
 use Rattle.upkeep.proofs.Sums.{pairs-total}
-use Rattle.upkeep.proofs.Chained.{chain-segment, free-not-chained, chained-once, chained-in, chain-in-tiers}
+use Rattle.chains.proofs.Chained.{chain-segment, free-not-chained, chained-once, chained-in}
+use Rattle.chains.proofs.Tiers.{chain-tiers, free-tiers}
 use Rattle.upkeep.proofs.AgreeTier.{SameTier, SameCounters, Moved, entry-moves, same-tier-fits, same-marks, same-counters, same-free, same-weigh}
 use Rattle.upkeep.proofs.AgreeChains.{SameChains, same-chain, same-freeChain, same-chained, same-chains-fit}
 
@@ -37,7 +37,7 @@ pub record OnlyTier (z : Shape) (img img′ : List ℕ) (t : ℕ) : Type 0 where
 
 -- what must be known of the changed tier
 pub record TierAgain (z : Shape) (img img′ : List ℕ) (s t : ℕ) : Type 0 where
-  pub fits : TierFits z img′ s t
+  pub fits : TierSlotsFit z img′ s t
   pub marks : MarksFit z img′ s t
   -- no key is there twice
   pub own : (j k : ℕ) → j < z .settings .slots → k < z .settings .slots → slotAt z img′ t j ≢ 0 → slotAt z img′ t k ≢ 0
@@ -55,7 +55,7 @@ module _ (z : Shape) (img : List ℕ) (s t : ℕ) (hs : s < z .settings .segment
   -- a tier that was not changed
   pub tier-stays : (img′ : List ℕ) → SameTier z img img′ t → TierAgain z img img′ s t
   tier-stays img′ same =
-      let fits : TierFits z img s t = sound .fits .entries .tiersFit s hs t m in
+      let fits : TierSlotsFit z img s t = sound .fits .entries .tiersFit s hs t m in
       let full : (j : ℕ) → j < z .settings .slots → slotAt z img′ t j ≢ 0 → slotAt z img t j ≢ 0 = λ j h ne e. ne (same .slots j h ∙ e) in
       let key : (j : ℕ) → j < z .settings .slots → slotAt z img′ t j ≢ 0 → keyAt z img′ t j ≡ keyAt z img t j =
       λ j h ne. entry-moves z img img′ t (same .bytes) s j j (same .slots j h) (fits .slotsFit .full j h (full j h ne)) .key in
@@ -81,9 +81,9 @@ module _ (z : Shape) (img : List ℕ) (s t : ℕ) (hs : s < z .settings .segment
 
     module _ (s′ : ℕ) (h : s′ < segments) (u : ℕ) (mu : List·Memᴰ u (chain z img s′)) (ne : u ≢ t) where
       other : SameTier z img img′ u
-      other = only .others u (chain-in-tiers z img (sound .fits .chains) s′ u h mu) ne
+      other = only .others u (chain-tiers z img (sound .fits .chains) s′ h u mu) ne
 
-      other-fits : TierFits z img s′ u
+      other-fits : TierSlotsFit z img s′ u
       other-fits = sound .fits .entries .tiersFit s′ h u mu
 
       -- a full slot was full and stands for the same key
@@ -130,7 +130,7 @@ module _ (z : Shape) (img : List ℕ) (s t : ℕ) (hs : s < z .settings .segment
           record {
             tiersFit =
                 λ s′ h.
-                by-tier (TierFits z img′) (a .fits) s′ h
+                by-tier (TierSlotsFit z img′) (a .fits) s′ h
                 (λ u mu ne. same-tier-fits z img img′ u (other s′ h u mu ne) s′ (other-fits s′ h u mu ne));
             keysOnce = keys-once;
           }
@@ -138,7 +138,7 @@ module _ (z : Shape) (img : List ℕ) (s t : ℕ) (hs : s < z .settings .segment
     counters-again : Below segments (λ s′. Every (chain z img′ s′) (λ u. (List·Memᴰ u (t ∷ but) → ⊥) → CountersFit z img′ u))
     counters-again s′ h u mu out =
         let mu₀ : List·Memᴰ u (chain z img s′) = subst (List·Memᴰ u) (same-chain z img img′ (sound .fits .chains) (only .chains) s′ h) mu in
-        let is : IsTier z u = chain-in-tiers z img (sound .fits .chains) s′ u h mu₀ in
+        let is : IsTier z u = chain-tiers z img (sound .fits .chains) s′ h u mu₀ in
         let ne : u ≢ t = λ e. out (List·Memᴰ·head e) in
         same-counters z img img′ u (only .others u is ne) (only .counts u is ne)
         (sound .fits .chunks .counters s′ h u mu₀ (λ k. out (List·Memᴰ·tail k)))

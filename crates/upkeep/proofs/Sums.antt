@@ -16,7 +16,7 @@ use Rattle.lists.proofs.Lists.{total-append}
 use Rattle.lists.proofs.Rows.{those-more, those-same}
 use Rattle.layout.specs.declared.Shape.{Shape}
 use Rattle.chains.specs.Chains.{chain, chained}
-use Rattle.probe.specs.Table.{Table, total as Table·total}
+use Rattle.probe.specs.Table.{Table, slotTotal}
 use Rattle.entries.specs.declared.Live.{Live}
 use Rattle.entries.specs.Live.{slotAt, fullSlots, entryAt, liveAt, liveIn, liveOf, live}
 use Rattle.search.specs.Search.{slotsOf}
@@ -50,22 +50,22 @@ module _ {M : Type 0} (𝓣 : Table M) (m : M) where
   none-full g = refl
 
   -- over the full ones of the first n slots
-  full-slots : (g f : ℕ → ℕ) (n : ℕ) → Below n (λ j. get m j ≢ 0 → g j ≡ f (get m j)) → total (those (below n) full) g ≡ Table·total 𝓣 (ifFull f) m n
-  unfolding Table·total
+  full-slots : (g f : ℕ → ℕ) (n : ℕ) → Below n (λ j. get m j ≢ 0 → g j ≡ f (get m j)) → total (those (below n) full) g ≡ slotTotal 𝓣 (ifFull f) m n
+  unfolding slotTotal
   full-slots g f zero e = none-full g
   full-slots g f (suc n) e =
-      let rest : total (those (below n) full) g ≡ Table·total 𝓣 (ifFull f) m n = full-slots g f n (λ j l. e j (omega arith)) in
+      let rest : total (those (below n) full) g ≡ slotTotal 𝓣 (ifFull f) m n = full-slots g f n (λ j l. e j (omega arith)) in
       ⊎-elim
       (λ (q : get m n ≡ 0). omega (arith, more-empty g n q, empty-is f (get m n) q))
       (λ (q : get m n ≢ 0). omega (arith, more-full g n q, full-is f (get m n) q, e n (omega arith) q))
       (same-or (get m n) 0)
 
   slots-same : (m′ : M) (f f′ : ℕ → ℕ) (n : ℕ) → Below n (λ j. get m′ j ≡ get m j) → Below n (λ j. get m j ≢ 0 → f′ (get m j) ≡ f (get m j))
-      → Table·total 𝓣 (ifFull f′) m′ n ≡ Table·total 𝓣 (ifFull f) m n
-  unfolding Table·total
+      → slotTotal 𝓣 (ifFull f′) m′ n ≡ slotTotal 𝓣 (ifFull f) m n
+  unfolding slotTotal
   slots-same m′ f f′ zero e g = refl
   slots-same m′ f f′ (suc n) e g =
-      let rest : Table·total 𝓣 (ifFull f′) m′ n ≡ Table·total 𝓣 (ifFull f) m n = slots-same m′ f f′ n (λ j l. e j (omega arith)) (λ j l. g j (omega arith)) in
+      let rest : slotTotal 𝓣 (ifFull f′) m′ n ≡ slotTotal 𝓣 (ifFull f) m n = slots-same m′ f f′ n (λ j l. e j (omega arith)) (λ j l. g j (omega arith)) in
       let here : ifFull f′ (get m′ n) ≡ ifFull f′ (get m n) = ap (ifFull f′) (e n (omega arith)) in
       ⊎-elim
       (λ (q : get m n ≡ 0). omega (arith, empty-is f (get m n) q, empty-is f′ (get m n) q))
@@ -73,14 +73,14 @@ module _ {M : Type 0} (𝓣 : Table M) (m : M) where
       (same-or (get m n) 0)
 
 module _ (z : Shape) (img : List ℕ) where
-  pub full-total : (t : ℕ) → length (fullSlots z img t) ≡ Table·total (slotsOf z t) (ifFull (λ v. 1)) img (z .settings .slots)
+  pub full-total : (t : ℕ) → length (fullSlots z img t) ≡ slotTotal (slotsOf z t) (ifFull (λ v. 1)) img (z .settings .slots)
   unfolding fullSlots
   full-total t = length-total (fullSlots z img t) ∙ full-slots (slotsOf z t) img (λ _. 1) (λ _. 1) (z .settings .slots) (λ j l h. refl)
 
   -- a sum over a tier's live entries, of what the slots' numbers alone give
   pub liveIn-total : (s t : ℕ) (g : Live → ℕ) (f : ℕ → ℕ)
       → Below (z .settings .slots) (λ j. slotAt z img t j ≢ 0 → g (liveAt z img s t j) ≡ f (slotAt z img t j))
-      → total (liveIn z img s t) g ≡ Table·total (slotsOf z t) (ifFull f) img (z .settings .slots)
+      → total (liveIn z img s t) g ≡ slotTotal (slotsOf z t) (ifFull f) img (z .settings .slots)
   unfolding fullSlots liveIn
   liveIn-total s t g f e =
       total-map (liveAt z img s t) (fullSlots z img t) g ∙ full-slots (slotsOf z t) img (λ j. g (liveAt z img s t j)) f (z .settings .slots) e
@@ -106,5 +106,5 @@ module _ (z : Shape) (img : List ℕ) where
 -- two tables that agree slot by slot have the same sums, of what is the same for each number that a slot holds
 pub table-same : (z : Shape) (t : ℕ) (img img′ : List ℕ) (f f′ : ℕ → ℕ) → Below (z .settings .slots) (λ j. slotAt z img′ t j ≡ slotAt z img t j)
     → Below (z .settings .slots) (λ j. slotAt z img t j ≢ 0 → f′ (slotAt z img t j) ≡ f (slotAt z img t j))
-    → Table·total (slotsOf z t) (ifFull f′) img′ (z .settings .slots) ≡ Table·total (slotsOf z t) (ifFull f) img (z .settings .slots)
+    → slotTotal (slotsOf z t) (ifFull f′) img′ (z .settings .slots) ≡ slotTotal (slotsOf z t) (ifFull f) img (z .settings .slots)
 table-same z t img img′ f f′ e g = slots-same (slotsOf z t) img img′ f f′ (z .settings .slots) e g

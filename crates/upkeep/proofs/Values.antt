@@ -7,7 +7,7 @@ use mathlib.Core.Path.{_≡_}
 use mathlib.Core.Logic.{_≢_}
 use borrow.Author.Tests.{eq-eqb, ne-eqb}
 use Rattle.layout.specs.declared.Shape.{Shape}
-use Rattle.probe.specs.Table.{total as Table·total}
+use Rattle.probe.specs.Table.{slotTotal}
 use Rattle.entries.specs.declared.Entry.{Entry}
 use Rattle.entries.specs.Keys.{slotChunk}
 use Rattle.entries.specs.Stored.{stored, entryOf, keyOf, valueOf}
@@ -35,4 +35,4 @@ empty-is f v h = rw (eq-eqb v 0 h, ifFull)
 
 -- the sum of F over the keys and records of tier t's full slots
 unfoldable pub weigh : Shape → List ℕ → (Pair → ℕ) → ℕ → ℕ
-weigh z img F t = Table·total (slotsOf z t) (ifFull (λ v. F (pairFor z img t v))) img (z .settings .slots)
+weigh z img F t = slotTotal (slotsOf z t) (ifFull (λ v. F (pairFor z img t v))) img (z .settings .slots)

@@ -1,15 +1,6 @@
 // XXH64: published vectors, and every length to 300.
 use crate::print;
 
-// a * b, modulo 2^64, from halves of 32 bits.
-fn mul(a: u64, b: u64) -> u64 {
-    let al = a % 4294967296;
-    let ah = a / 4294967296;
-    let bl = b % 4294967296;
-    let bh = b / 4294967296;
-    std::num::wrapping_add_u64(std::num::wrapping_add_u64(ah * bl, al * bh) << 32, al * bl)
-}
-
 fn top(x: u64) -> u8 {
     (x >> 56) as u8
 }
@@ -19,7 +10,7 @@ fn sanity(s: &mut [u8]) {
     let mut g: u64 = 2654435761;
     for i in 0..s.len() {
         s[i] = top(g);
-        g = mul(g, 11400714785074694797);
+        g = xxh64::mul(g, 11400714785074694797);
     }
 }
 

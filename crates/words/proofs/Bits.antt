@@ -4,13 +4,13 @@ use mathlib.Core.List.{List}
 use mathlib.Core.Path.{_≡_, refl, ap, ap₂, sym, _∙_, subst}
 use mathlib.Core.Logic.{_⊎_, inl, inr, ⊎-elim, _≢_}
 use native.Mathlib.Omega.{arith}
-use native.Mathlib.Nat.{add-zero, one-mul, mod-eq-of-lt, mod-lt, mul-assoc}
+use native.Mathlib.Nat.{add-zero, add-comm, one-mul, mod-eq-of-lt, mod-lt, mul-assoc, mul-le-mul-right, div-eq-of-lt, lt-of-lt-of-le, pow-suc}
 use native.Mathlib.Numerals.{add-one}
 use lib.ListN.{length, getD, length-set}
 use lib.Seq.{getD-set-same, getD-set-other, set-out}
-use lib.Pow.{pow-add, split, high, low, field, mod-mod-pow, shr-shr, shr-lt, pow-pos, pow-lt, ones-lt}
+use lib.Pow.{pow-add, split, high, low, field, mod-mod-pow, shr-shr, shr-lt, pow-pos, pow-lt, pow-mono, shl-exact, ones-lt}
 use lib.Arith.{digits-lt, mul-pred}
-use lib.Bits.{bitAnd, bitOr, or-block, or-step, or-zero-r, and-block, and-step, and-mask, mask-lt}
+use lib.Bits.{bitAnd, bitOr, or-block, or-step, or-zero-r, and-block, and-step, and-mask, mask-lt, or-shifted-r}
 use Rattle.words.specs.Bytes.{Bytes}
 use Rattle.words.specs.Bits.{bitOf, withBit, bit, putBit, putBits, ones}
 use Rattle.lists.specs.Cases.{lt-or, same-or}
@@ -18,57 +18,57 @@ use Rattle.words.proofs.Bytes.{bytes-set}
 
 -- ---- bits of a number
 
-rest : (v i : ℕ) → v % 2 ^ i < 2 ^ i
-rest v i = mod-lt v (pow-pos i)
+mod-pow-lt : (v i : ℕ) → v % 2 ^ i < 2 ^ i
+mod-pow-lt v i = mod-lt v (pow-pos i)
 
-pub bit-lt : (v i : ℕ) → bitOf v i < 2
-bit-lt v i = omega arith
+pub bitOf-lt : (v i : ℕ) → bitOf v i < 2
+bitOf-lt v i = omega arith
 
-with-same : (v i b : ℕ) → b < 2 → bitOf (withBit v i b) i ≡ b
-with-same v i b h = rw (high (v / 2 ^ i / 2 * 2 + b) i (rest v i)) (omega arith)
+bitOf-withBit-same : (v i b : ℕ) → b < 2 → bitOf (withBit v i b) i ≡ b
+bitOf-withBit-same v i b h = rw (high (v / 2 ^ i / 2 * 2 + b) i (mod-pow-lt v i)) (omega arith)
 
 -- the bits below i are those of the number modulo 2 ^ i
-low-bits : (v i j : ℕ) → j < i → bitOf v j ≡ bitOf (v % 2 ^ i) j
-low-bits v i j h =
+bitOf-mod : (v i j : ℕ) → j < i → bitOf v j ≡ bitOf (v % 2 ^ i) j
+bitOf-mod v i j h =
     let k : ℕ = i - j - 1 in
     let e : k + 1 + j ≡ i = omega arith in
     let f : v % 2 ^ i / 2 ^ j ≡ v / 2 ^ j % 2 ^ (k + 1) = subst (λ (w : ℕ). v % 2 ^ w / 2 ^ j ≡ v / 2 ^ j % 2 ^ (k + 1)) e (field v (k + 1) j) in
     sym (mod-mod-pow (v / 2 ^ j) k 1) ∙ ap (λ (x : ℕ). x % 2) (sym f)
 
 -- those above i are those of the number without its i + 1 lowest
-high-bits : (v i j : ℕ) → i < j → v / 2 ^ j ≡ v / 2 ^ i / 2 / 2 ^ (j - i - 1)
-high-bits v i j h =
+div-pow-above : (v i j : ℕ) → i < j → v / 2 ^ j ≡ v / 2 ^ i / 2 / 2 ^ (j - i - 1)
+div-pow-above v i j h =
     let e : i + 1 + (j - i - 1) ≡ j = omega arith in
     sym (shr-shr (v / 2 ^ i) 1 (j - i - 1) ∙ shr-shr v i (1 + (j - i - 1)) ∙ ap (λ (w : ℕ). v / 2 ^ w) (omega arith))
 
-with-other : (v i b j : ℕ) → b < 2 → j ≢ i → bitOf (withBit v i b) j ≡ bitOf v j
-with-other v i b j hb ne =
+bitOf-withBit-other : (v i b j : ℕ) → b < 2 → j ≢ i → bitOf (withBit v i b) j ≡ bitOf v j
+bitOf-withBit-other v i b j hb ne =
     ⊎-elim
     (λ (h : j < i).
-    low-bits (withBit v i b) i j h
-    ∙ ap (λ (w : ℕ). bitOf w j) (low (v / 2 ^ i / 2 * 2 + b) i (rest v i))
-    ∙ sym (low-bits v i j h))
+    bitOf-mod (withBit v i b) i j h
+    ∙ ap (λ (w : ℕ). bitOf w j) (low (v / 2 ^ i / 2 * 2 + b) i (mod-pow-lt v i))
+    ∙ sym (bitOf-mod v i j h))
     (λ (h : i ≤ j).
     let above : i < j = omega arith in
-    let same : withBit v i b / 2 ^ i / 2 ≡ v / 2 ^ i / 2 = rw (high (v / 2 ^ i / 2 * 2 + b) i (rest v i)) (omega arith) in
-    ap (λ (w : ℕ). w % 2) (high-bits (withBit v i b) i j above ∙ ap (λ (w : ℕ). w / 2 ^ (j - i - 1)) same ∙ sym (high-bits v i j above)))
+    let same : withBit v i b / 2 ^ i / 2 ≡ v / 2 ^ i / 2 = rw (high (v / 2 ^ i / 2 * 2 + b) i (mod-pow-lt v i)) (omega arith) in
+    ap (λ (w : ℕ). w % 2) (div-pow-above (withBit v i b) i j above ∙ ap (λ (w : ℕ). w / 2 ^ (j - i - 1)) same ∙ sym (div-pow-above v i j above)))
     (lt-or j i)
 
 -- a byte is 7 - i bits, a bit and i bits
-byte-split : (i : ℕ) → i < 8 → 2 ^ (7 - i) * 2 * 2 ^ i ≡ 256
-byte-split i h =
+pow-split : (i : ℕ) → i < 8 → 2 ^ (7 - i) * 2 * 2 ^ i ≡ 256
+pow-split i h =
     let e : 7 - i + 1 + i ≡ 8 = omega arith in
     sym (pow-add 2 (7 - i + 1) i ∙ ap (λ (w : ℕ). w * 2 ^ i) (pow-add 2 (7 - i) 1)) ∙ ap (λ (w : ℕ). 2 ^ w) e
 
-upper-lt : (v i : ℕ) → v < 256 → i < 8 → v / 2 ^ i / 2 < 2 ^ (7 - i)
-upper-lt v i hv hi =
+div-pow-lt : (v i : ℕ) → v < 256 → i < 8 → v / 2 ^ i / 2 < 2 ^ (7 - i)
+div-pow-lt v i hv hi =
     let e : 7 - i + (i + 1) ≡ 8 = omega arith in
     rw (shr-shr v i 1) (shr-lt (7 - i) (i + 1) (subst (λ (w : ℕ). v < 2 ^ w) (sym e) hv))
 
-with-lt : (v i b : ℕ) → v < 256 → i < 8 → b < 2 → withBit v i b < 256
-with-lt v i b hv hi hb =
-    let upper : v / 2 ^ i / 2 * 2 + b < 2 ^ (7 - i) * 2 = omega (arith, upper-lt v i hv hi) in
-    rw (← byte-split i hi) (digits-lt upper (rest v i))
+withBit-lt : (v i b : ℕ) → v < 256 → i < 8 → b < 2 → withBit v i b < 256
+withBit-lt v i b hv hi hb =
+    let upper : v / 2 ^ i / 2 * 2 + b < 2 ^ (7 - i) * 2 = omega (arith, div-pow-lt v i hv hi) in
+    rw (← pow-split i hi) (digits-lt upper (mod-pow-lt v i))
 
 -- ---- the masks of the code
 
@@ -76,42 +76,56 @@ with-lt v i b hv hi hb =
 pub shifted-one : (w n : ℕ) → n < w → 1 * 2 ^ n % 2 ^ w ≡ 2 ^ n
 shifted-one w n h = rw one-mul (mod-eq-of-lt (pow-lt {i = n} {j = w} h))
 
-or-bit : (v i : ℕ) → bitOr v (2 ^ i) ≡ withBit v i 1
-or-bit v i =
-    let x : ℕ = v / 2 ^ i in
-    let one : bitOr x 1 ≡ x / 2 * 2 + 1 = or-step x 1 ∙ ap₂ (λ (a b : ℕ). a * 2 + b) (or-zero-r (x / 2)) (omega arith) in
-    ap₂ bitOr (sym (split v i)) (sym (add-zero (1 * 2 ^ i) ∙ one-mul (2 ^ i)))
-    ∙ or-block i x 1 (v % 2 ^ i) 0 (rest v i) (pow-pos i)
-    ∙ ap₂ (λ (a b : ℕ). a * 2 ^ i + b) one (or-zero-r (v % 2 ^ i))
+-- b in the place of a 0
+or-withBit : (v i b : ℕ) → b < 2 → bitOr (withBit v i 0) (b * 2 ^ i) ≡ withBit v i b
+or-withBit v i b h =
+    let x : ℕ = v / 2 ^ i / 2 in
+    let half : (x * 2 + 0) / 2 ≡ x = omega arith in
+    let none : b / 2 ≡ 0 = omega arith in
+    let one : bitOr (x * 2 + 0) b ≡ x * 2 + b = or-step (x * 2 + 0) b ∙ ap₂ (λ (c d : ℕ). c * 2 + d) (rw (half, none) (or-zero-r x)) (omega arith) in
+    ap (bitOr (withBit v i 0)) (sym (add-zero (b * 2 ^ i)))
+    ∙ or-block i (x * 2 + 0) b (v % 2 ^ i) 0 (mod-pow-lt v i) (pow-pos i)
+    ∙ ap₂ (λ (c d : ℕ). c * 2 ^ i + d) one (or-zero-r (v % 2 ^ i))
 
 -- every bit of a byte but bit i
-all-but : (i : ℕ) → i < 8 → 255 - 2 ^ i ≡ (2 ^ (7 - i) - 1) * 2 * 2 ^ i + (2 ^ i - 1)
-all-but i h =
-    let e : 2 ^ (7 - i) * (2 * 2 ^ i) ≡ 256 = sym (mul-assoc (2 ^ (7 - i)) 2 (2 ^ i)) ∙ byte-split i h in
+ones-but : (i : ℕ) → i < 8 → 255 - 2 ^ i ≡ (2 ^ (7 - i) - 1) * 2 * 2 ^ i + (2 ^ i - 1)
+ones-but i h =
+    let e : 2 ^ (7 - i) * (2 * 2 ^ i) ≡ 256 = sym (mul-assoc (2 ^ (7 - i)) 2 (2 ^ i)) ∙ pow-split i h in
     let p : 2 ^ (7 - i) * (2 * 2 ^ i) - 1 ≡ (2 ^ (7 - i) - 1) * (2 * 2 ^ i) + (2 * 2 ^ i - 1) = mul-pred (pow-pos (7 - i)) (omega (arith, pow-pos i)) in
     rw (mul-assoc (2 ^ (7 - i) - 1) 2 (2 ^ i)) (omega (arith, pow-pos i))
 
-and-bit : (v i : ℕ) → v < 256 → i < 8 → bitAnd v (255 - 2 ^ i) ≡ withBit v i 0
-and-bit v i hv hi =
+and-withBit : (v i : ℕ) → v < 256 → i < 8 → bitAnd v (255 - 2 ^ i) ≡ withBit v i 0
+and-withBit v i hv hi =
     let x : ℕ = v / 2 ^ i in
     let m : ℕ = 2 ^ (7 - i) - 1 in
     let half : m * 2 / 2 ≡ m = omega arith in
     let even : m * 2 % 2 ≡ 0 = omega arith in
-    let upper : bitAnd (x / 2) m ≡ x / 2 = and-mask (x / 2) (7 - i) ∙ mod-eq-of-lt (upper-lt v i hv hi) in
+    let upper : bitAnd (x / 2) m ≡ x / 2 = and-mask (x / 2) (7 - i) ∙ mod-eq-of-lt (div-pow-lt v i hv hi) in
     let high-part : bitAnd x (m * 2) ≡ x / 2 * 2 + 0 = and-step x (m * 2) ∙ rw (half, even, upper) (omega arith) in
-    let low-part : bitAnd (v % 2 ^ i) (2 ^ i - 1) ≡ v % 2 ^ i = and-mask (v % 2 ^ i) i ∙ mod-eq-of-lt (rest v i) in
-    ap₂ bitAnd (sym (split v i)) (all-but i hi)
-    ∙ and-block i x (m * 2) (v % 2 ^ i) (2 ^ i - 1) (rest v i) (ones-lt i)
+    let low-part : bitAnd (v % 2 ^ i) (2 ^ i - 1) ≡ v % 2 ^ i = and-mask (v % 2 ^ i) i ∙ mod-eq-of-lt (mod-pow-lt v i) in
+    ap₂ bitAnd (sym (split v i)) (ones-but i hi)
+    ∙ and-block i x (m * 2) (v % 2 ^ i) (2 ^ i - 1) (mod-pow-lt v i) (ones-lt i)
     ∙ ap₂ (λ (a b : ℕ). a * 2 ^ i + b) high-part low-part
 
-pub and-one : (x : ℕ) → (bitAnd x 1 ≡ x % 2) × (bitAnd x 1 < 2)
-and-one x = (and-mask x 1, mask-lt x 1)
+pub and-ones : (x n m : ℕ) → m ≡ 2 ^ n - 1 → (bitAnd x m ≡ x % 2 ^ n) × (bitAnd x m < 2 ^ n)
+and-ones x n m e = rw e (and-mask x n, mask-lt x n)
 
-pub or-sets : (v i : ℕ) → i < 8 → bitOr v (1 * 2 ^ i % 256) ≡ withBit v i 1
-or-sets v i h = rw (shifted-one 8 i h) (or-bit v i)
+pub shr-out : (v n : ℕ) → v < 2 ^ 64 → 64 ≤ n → v / 2 ^ n ≡ 0
+shr-out v n h k = div-eq-of-lt (lt-of-lt-of-le h (pow-mono {i = 64} {j = n} k))
 
-pub and-clears : (v i : ℕ) → v < 256 → i < 8 → bitAnd v (255 - 1 * 2 ^ i % 256) ≡ withBit v i 0
-and-clears v i hv h = rw (shifted-one 8 i h) (and-bit v i hv h)
+pub or-shl : (k v l c : ℕ) → l < 2 ^ k → c < 2 ^ v → k + v ≤ 64 → bitOr l (c * 2 ^ k % 2 ^ 64) ≡ l + c * 2 ^ k
+or-shl k v l c hl hc fits = rw (shl-exact v k 64 hc (omega arith), or-shifted-r c k l hl) (add-comm (c * 2 ^ k) l)
+
+pub pow-256 : (n : ℕ) → 256 ^ n ≡ 2 ^ (8 * n)
+pow-256 zero = refl
+pow-256 (suc n) =
+    let e : 8 * suc n ≡ 8 * n + 8 = omega arith in rw (e, pow-suc 256 n, pow-add 2 (8 * n) 8) (ap (λ (x : ℕ). x * 256) (pow-256 n))
+
+pub masks-withBit : (v i b : ℕ) → v < 256 → i < 8 → b < 2 → bitOr (bitAnd v (255 - 1 * 2 ^ i % 256)) (b * 2 ^ i % 256) ≡ withBit v i b
+masks-withBit v i b hv hi hb =
+    let one : b ≤ 1 = omega arith in
+    let fits : b * 2 ^ i < 256 = omega (arith, mul-le-mul-right (2 ^ i) one, pow-lt {i = i} {j = 8} hi) in
+    rw (shifted-one 8 i hi, and-withBit v i hv hi, mod-eq-of-lt fits) (or-withBit v i b hb)
 
 -- ---- bits of a list of bytes
 
@@ -121,7 +135,7 @@ length-putBit l at i b = length-set l (at + i / 8) _
 
 pub bytes-putBit : (l : List ℕ) (at i b : ℕ) → Bytes l → b < 2 → Bytes (putBit l at i b)
 unfolding putBit
-bytes-putBit l at i b h hb = bytes-set l (at + i / 8) _ h (with-lt (getD l (at + i / 8) 0) (i % 8) b (h _) (omega arith) hb)
+bytes-putBit l at i b h hb = bytes-set l (at + i / 8) _ h (withBit-lt (getD l (at + i / 8) 0) (i % 8) b (h _) (omega arith) hb)
 
 pub getD-putBit-out : (l : List ℕ) (at i b j : ℕ) → j ≢ at + i / 8 → getD (putBit l at i b) j 0 ≡ getD l j 0
 unfolding putBit
@@ -129,7 +143,7 @@ getD-putBit-out l at i b j ne = getD-set-other l (at + i / 8) j _ 0 ne
 
 pub bit-putBit-same : (l : List ℕ) (at i b : ℕ) → 8 * at + i < 8 * length l → b < 2 → bit (putBit l at i b) at i ≡ b
 unfolding bit putBit
-bit-putBit-same l at i b h hb = rw (getD-set-same l (at + i / 8) _ 0 (omega arith)) (with-same (getD l (at + i / 8) 0) (i % 8) b hb)
+bit-putBit-same l at i b h hb = rw (getD-set-same l (at + i / 8) _ 0 (omega arith)) (bitOf-withBit-same (getD l (at + i / 8) 0) (i % 8) b hb)
 
 pub bit-putBit-other : (l : List ℕ) (at i b j : ℕ) → b < 2 → j ≢ i → bit (putBit l at i b) at j ≡ bit l at j
 unfolding bit putBit
@@ -138,7 +152,7 @@ bit-putBit-other l at i b j hb ne =
     (λ (e : j / 8 ≡ i / 8).
     let apart : j % 8 ≢ i % 8 = omega arith in
     ⊎-elim
-    (λ (h : at + i / 8 < length l). rw (e, getD-set-same l (at + i / 8) _ 0 h) (with-other (getD l (at + i / 8) 0) (i % 8) b (j % 8) hb apart))
+    (λ (h : at + i / 8 < length l). rw (e, getD-set-same l (at + i / 8) _ 0 h) (bitOf-withBit-other (getD l (at + i / 8) 0) (i % 8) b (j % 8) hb apart))
     (λ (h : length l ≤ at + i / 8). rw (set-out l (at + i / 8) _ h))
     (lt-or (at + i / 8) (length l)))
     (λ (e : j / 8 ≢ i / 8). rw (getD-set-other l (at + i / 8) (at + j / 8) _ 0 (omega arith)))
@@ -213,13 +227,13 @@ pub record PuttingBits (l₀ : List ℕ) (at i n b : ℕ) (l : List ℕ) (k : �
   pub long : length l ≡ length l₀
   pub is : l ≡ putBits l₀ at i k b
 
-pub put-starts : (l : List ℕ) (at i n b : ℕ) → PuttingBits l at i n b l 0
-put-starts l at i n b = record { low = omega arith; long = refl; is = sym (putBits-none l at i b) }
+pub putBits-starts : (l : List ℕ) (at i n b : ℕ) → PuttingBits l at i n b l 0
+putBits-starts l at i n b = record { low = omega arith; long = refl; is = sym (putBits-none l at i b) }
 
-pub put-turns : {l₀ : List ℕ} {at i n b : ℕ} {l : List ℕ} {k : ℕ} {l′ : List ℕ} → PuttingBits l₀ at i n b l k → k < n → l′ ≡ putBit l at (i + k) b
+pub putBits-turns : {l₀ : List ℕ} {at i n b : ℕ} {l : List ℕ} {k : ℕ} {l′ : List ℕ} → PuttingBits l₀ at i n b l k → k < n → l′ ≡ putBit l at (i + k) b
     → PuttingBits l₀ at i n b l′ (k + 1)
-put-turns {l₀} {at} {i} {n} {b} {l} {k} p h e =
+putBits-turns {l₀} {at} {i} {n} {b} {l} {k} p h e =
     record { low = omega arith; long = ap length e ∙ length-putBit l at (i + k) b ∙ p .long; is = cc (putBits-more l₀ at i k b, p .is) }
 
-pub put-ends : {l₀ : List ℕ} {at i n b : ℕ} {l : List ℕ} {k : ℕ} → PuttingBits l₀ at i n b l k → n ≤ k → l ≡ putBits l₀ at i n b
-put-ends {l₀} {at} {i} {n} {b} {l} {k} p h = let e : k ≡ n = omega (arith, p .low) in let f : l ≡ putBits l₀ at i k b = p .is in rw e at f
+pub putBits-ends : {l₀ : List ℕ} {at i n b : ℕ} {l : List ℕ} {k : ℕ} → PuttingBits l₀ at i n b l k → n ≤ k → l ≡ putBits l₀ at i n b
+putBits-ends {l₀} {at} {i} {n} {b} {l} {k} p h = let e : k ≡ n = omega (arith, p .low) in let f : l ≡ putBits l₀ at i k b = p .is in rw e at f

@@ -1,7 +1,7 @@
 -- Laws of a stretch of bytes read and written.
 use Prim.Native.Nat.{ℕ, zero, suc, _+_, _≤_, _<_}
-use mathlib.Core.List.{List, [], _∷_}
-use mathlib.Core.Path.{_≡_, refl, sym, _∙_}
+use mathlib.Core.List.{List, [], _∷_, _++_}
+use mathlib.Core.Path.{_≡_, refl, ap, ap₂, sym, _∙_}
 use mathlib.Core.Logic.{_⊎_, inl, inr, ⊎-elim, _≢_}
 use native.Mathlib.Omega.{arith}
 use native.Mathlib.Nat.{add-zero}
@@ -41,7 +41,17 @@ pub bytes-sets : (l : List ℕ) (at : ℕ) (bs : List ℕ) → Bytes l → Bytes
 bytes-sets l at [] b c = b
 bytes-sets l at (x ∷ bs) b c = bytes-sets (set l at x) (suc at) bs (bytes-set l at x b (c 0)) (λ i. c (suc i))
 
--- ---- writes among themselves
+-- ---- one write after the other
+
+pub sets-append : (l : List ℕ) (at : ℕ) (xs ys : List ℕ) → sets l at (xs ++ ys) ≡ sets (sets l at xs) (at + length xs) ys
+sets-append l at [] ys = ap (λ (k : ℕ). sets l k ys) (sym (add-zero at))
+sets-append l at (x ∷ xs) ys =
+    sets-append (set l at x) (suc at) xs ys ∙
+    ap (λ (k : ℕ). sets (sets (set l at x) (suc at) xs) k ys) (let e : suc at + length xs ≡ at + suc (length xs) = omega arith in e)
+
+pub sets-then : (l : List ℕ) (at : ℕ) (xs ys : List ℕ) {one : List ℕ} {next : ℕ} → one ≡ sets l at xs → next ≡ at + length xs
+    → sets one next ys ≡ sets l at (xs ++ ys)
+sets-then l at xs ys e n = ap₂ (λ (x : List ℕ) (k : ℕ). sets x k ys) e n ∙ sym (sets-append l at xs ys)
 
 -- ---- stretches
 

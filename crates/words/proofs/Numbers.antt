@@ -68,8 +68,6 @@ unfolding le
 le-lt l at zero b = omega arith
 le-lt l at (suc n) b = omega (arith, b at, le-lt l (suc at) n b)
 
--- ---- writes among themselves
-
 -- ---- fixed widths, as sums
 
 pub le-one : (l : List ℕ) (at : ℕ) → le l at 1 ≡ getD l at 0
@@ -142,31 +140,31 @@ be-ends {l} {at} {n} {sum} {k} r z =
     (rw e at f, rw e at g)
 
 -- a sum of fewer than 8 bytes takes one more
-pub room : {sum k : ℕ} → sum < 256 ^ k → k ≤ 7 → sum < 72057594037927936
-room {sum} {k} h small = omega (arith, pow-le-pow-right {n = 256} (omega arith) {i = k} {j = 7} small)
+pub seven-bytes-lt : {sum k : ℕ} → sum < 256 ^ k → k ≤ 7 → sum < 72057594037927936
+seven-bytes-lt {sum} {k} h small = omega (arith, pow-le-pow-right {n = 256} (omega arith) {i = k} {j = 7} small)
 
 -- ---- the loop that writes: the writes that are left, from k on, are those of the whole
 
-pub record Writing (l₀ : List ℕ) (at n v : ℕ) (l : List ℕ) (rest k : ℕ) : Type 0 where
+pub record WritingLe (l₀ : List ℕ) (at n v : ℕ) (l : List ℕ) (rest k : ℕ) : Type 0 where
   pub low : k ≤ n
   pub long : length l ≡ length l₀
   pub is : putLe l (at + k) (n - k) rest ≡ putLe l₀ at n v
 
-pub write-starts : (l : List ℕ) (at n v : ℕ) → Writing l at n v l v 0
-write-starts l at n v = record { low = omega arith; long = refl; is = rw (add-zero, sub-zero) }
+pub putLe-starts : (l : List ℕ) (at n v : ℕ) → WritingLe l at n v l v 0
+putLe-starts l at n v = record { low = omega arith; long = refl; is = rw (add-zero, sub-zero) }
 
-pub write-turns : {l₀ : List ℕ} {at n v : ℕ} {l : List ℕ} {rest k : ℕ} → Writing l₀ at n v l rest k → k < n
-    → Writing l₀ at n v (set l (at + k) (rest % 256)) (rest / 256) (k + 1)
+pub putLe-turns : {l₀ : List ℕ} {at n v : ℕ} {l : List ℕ} {rest k : ℕ} → WritingLe l₀ at n v l rest k → k < n
+    → WritingLe l₀ at n v (set l (at + k) (rest % 256)) (rest / 256) (k + 1)
 unfolding putLe leBytes
-write-turns {l₀} {at} {n} {v} {l} {rest} {k} w h =
+putLe-turns {l₀} {at} {n} {v} {l} {rest} {k} w h =
     let a : n - k ≡ suc (n - (k + 1)) = omega arith in
     let b : at + (k + 1) ≡ suc (at + k) = omega arith in
     let is : sets l (at + k) (leBytes (n - k) rest) ≡ putLe l₀ at n v = w .is in
     record { low = omega arith; long = length-set l (at + k) (rest % 256) ∙ w .long; is = rw b (rw a at is) }
 
-pub write-ends : {l₀ : List ℕ} {at n v : ℕ} {l : List ℕ} {rest k : ℕ} → Writing l₀ at n v l rest k → n ≤ k → l ≡ putLe l₀ at n v
+pub putLe-ends : {l₀ : List ℕ} {at n v : ℕ} {l : List ℕ} {rest k : ℕ} → WritingLe l₀ at n v l rest k → n ≤ k → l ≡ putLe l₀ at n v
 unfolding putLe leBytes
-write-ends {l₀} {at} {n} {v} {l} {rest} {k} w z =
+putLe-ends {l₀} {at} {n} {v} {l} {rest} {k} w z =
     let e : n - k ≡ 0 = omega arith in
     let f : sets l (at + k) (leBytes (n - k) rest) ≡ putLe l₀ at n v = w .is in
     rw e at f

@@ -1,7 +1,7 @@
 -- Bits of a list of bytes: bit i, counted from place `at`, is bit i mod 8 of byte i div 8. A bit is 0 or 1.
-use Prim.Native.Nat.{ℕ, zero, suc, _+_, _*_, _/_, _%_, _^_}
+use Prim.Native.Nat.{ℕ, zero, suc, _+_, _*_, _/_, _%_, _^_, _≤_, _<_}
 use mathlib.Core.List.{List}
-use lib.ListN.{getD, set}
+use lib.ListN.{length, getD, set}
 
 -- bit i of a number, and the number with that bit made b: the bits above it, b, the bits below it
 abbrev pub bitOf : ℕ → ℕ → ℕ
@@ -26,3 +26,8 @@ putBits l at i (suc n) b = putBit (putBits l at i n b) at (i + n) b
 unfoldable pub ones : List ℕ → ℕ → ℕ → ℕ → ℕ
 ones l at i zero = 0
 ones l at i (suc n) = ones l at i n + bit l at (i + n)
+
+-- the n bits from i on end within the list, and their number is a word
+pub record BitRange (l : List ℕ) (at i n : ℕ) : Type 0 where
+  pub within : 8 * at + i + n ≤ 8 * length l
+  pub fits : i + n < 2 ^ 64

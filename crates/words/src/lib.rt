@@ -3,7 +3,7 @@ ghost use mathlib.Core.Path.{_≡_};
 ghost use Prim.Native.Nat.{_+_, _*_, _^_, _<_, _≤_};
 ghost use lib.ListN.{length};
 ghost use Rattle.words.specs.Numbers.{le, be, putLe};
-ghost use Rattle.words.specs.Bits.{bit as Bits·bit, putBit, putBits, ones as Bits·ones};
+ghost use Rattle.words.specs.Bits.{bit as Bits·bit, putBit, putBits, ones as Bits·ones, BitRange};
 
 fn wide(x: u8) -> u64
     ensures { λ r. ⌜ (r ≡ x) × (r < 256) ⌝ }
@@ -77,51 +77,30 @@ pub fn bit(s: &[u8], at: usize, i: usize) -> u8
     (s[at + i / 8] >> (i % 8)) & 1
 }
 
-// Makes bit i a 1.
-pub fn set_bit(s: &mut [u8], at: usize, i: usize)
-    requires { ⌜ 8 * at + i < 8 * length (now s) ⌝ }
-    ensures { λ r. ⌜ now (s .exit) ≡ putBit (now (s .entry)) at i 1 ⌝ }
+// Makes bit i b, which is 0 or 1.
+pub fn put_bit(s: &mut [u8], at: usize, i: usize, b: u8)
+    requires { ⌜ (8 * at + i < 8 * length (now s)) × (b < 2) ⌝ }
+    ensures { λ r. ⌜ now (s .exit) ≡ putBit (now (s .entry)) at i b ⌝ }
 {
     let j = at + i / 8;
-    s[j] = s[j] | (1u8 << (i % 8));
+    s[j] = (s[j] & !(1u8 << (i % 8))) | (b << (i % 8));
 }
 
-// Makes bit i a 0.
-pub fn clear_bit(s: &mut [u8], at: usize, i: usize)
-    requires { ⌜ 8 * at + i < 8 * length (now s) ⌝ }
-    ensures { λ r. ⌜ now (s .exit) ≡ putBit (now (s .entry)) at i 0 ⌝ }
+// Makes the n bits from bit i on b.
+pub fn put_bits(s: &mut [u8], at: usize, i: usize, n: usize, b: u8)
+    requires { ⌜ BitRange (now s) at i n × (b < 2) ⌝ }
+    ensures { λ r. ⌜ now (s .exit) ≡ putBits (now (s .entry)) at i n b ⌝ }
 {
-    let j = at + i / 8;
-    s[j] = s[j] & !(1u8 << (i % 8));
-}
-
-// Makes the n bits from bit i on 1s.
-pub fn set_bits(s: &mut [u8], at: usize, i: usize, n: usize)
-    requires { ⌜ (8 * at + i + n ≤ 8 * length (now s)) × (i + n < 2 ^ 64) ⌝ }
-    ensures { λ r. ⌜ now (s .exit) ≡ putBits (now (s .entry)) at i n 1 ⌝ }
-{
-    let mut k = 0;
-    while k < n {
-        set_bit(s, at, i + k);
-        k += 1;
-    }
-}
-
-// Makes the n bits from bit i on 0s.
-pub fn clear_bits(s: &mut [u8], at: usize, i: usize, n: usize)
-    requires { ⌜ (8 * at + i + n ≤ 8 * length (now s)) × (i + n < 2 ^ 64) ⌝ }
-    ensures { λ r. ⌜ now (s .exit) ≡ putBits (now (s .entry)) at i n 0 ⌝ }
-{
-    let mut cleared = 0;
-    while cleared < n {
-        clear_bit(s, at, i + cleared);
-        cleared += 1;
+    let mut done = 0;
+    while done < n {
+        put_bit(s, at, i + done, b);
+        done += 1;
     }
 }
 
 // How many of the n bits from bit i on are 1.
 pub fn ones(s: &[u8], at: usize, i: usize, n: usize) -> usize
-    requires { ⌜ (8 * at + i + n ≤ 8 * length (now s)) × (i + n < 2 ^ 64) ⌝ }
+    requires { ⌜ BitRange (now s) at i n ⌝ }
     ensures { λ r. ⌜ r ≡ Bits·ones (now (s .entry)) at i n ⌝ }
 {
     let mut sum: usize = 0;

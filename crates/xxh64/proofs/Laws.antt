@@ -15,22 +15,22 @@ use Rattle.xxh64.specs.Hash.{P5, add64, mul64, rotl64, stripeOf, lanesOf
 
 -- ---- the product modulo 2 ^ 64, from halves of 32 bits
 
-pub product-lt : {a b : ℕ} → a < 2 ^ 32 → b < 2 ^ 32 → a * b < 2 ^ 64
-product-lt {a} ha hb = lt-of-le-of-lt (mul-le-mul-left a (le-of-lt hb)) (shl-lt 32 32 ha)
+pub mul-lt : {a b : ℕ} → a < 2 ^ 32 → b < 2 ^ 32 → a * b < 2 ^ 64
+mul-lt {a} ha hb = lt-of-le-of-lt (mul-le-mul-left a (le-of-lt hb)) (shl-lt 32 32 ha)
 
-columns : (P a₀ a₁ b₀ b₁ : ℕ) → (a₁ * P + a₀) * (b₁ * P + b₀) ≡ a₁ * b₁ * (P * P) + a₁ * b₀ * P + a₀ * b₁ * P + a₀ * b₀
-columns P a₀ a₁ b₀ b₁ = simp (mul-add, add-mul, mul-assoc, mul-comm, mul-left-comm, add-assoc, add-comm, add-left-comm) refl
+mul-columns : (P a₀ a₁ b₀ b₁ : ℕ) → (a₁ * P + a₀) * (b₁ * P + b₀) ≡ a₁ * b₁ * (P * P) + a₁ * b₀ * P + a₀ * b₁ * P + a₀ * b₀
+mul-columns P a₀ a₁ b₀ b₁ = simp (mul-add, add-mul, mul-assoc, mul-comm, mul-left-comm, add-assoc, add-comm, add-left-comm) refl
 
-wraps : (w x y z : ℕ) → ((x + y) % 2 ^ 64 * 2 ^ 32 % 2 ^ 64 + z) % 2 ^ 64 ≡ (w * 2 ^ 64 + x * 2 ^ 32 + y * 2 ^ 32 + z) % 2 ^ 64
-wraps w x y z = omega arith
+mul-wraps : (w x y z : ℕ) → ((x + y) % 2 ^ 64 * 2 ^ 32 % 2 ^ 64 + z) % 2 ^ 64 ≡ (w * 2 ^ 64 + x * 2 ^ 32 + y * 2 ^ 32 + z) % 2 ^ 64
+mul-wraps w x y z = omega arith
 
-pub product : (a b : ℕ)
+pub mul64-halves : (a b : ℕ)
     → ((a / 2 ^ 32 * (b % 2 ^ 32) + a % 2 ^ 32 * (b / 2 ^ 32)) % 2 ^ 64 * 2 ^ 32 % 2 ^ 64 + a % 2 ^ 32 * (b % 2 ^ 32)) % 2 ^ 64
     ≡ mul64 a b
-product a b =
-    wraps (a / 2 ^ 32 * (b / 2 ^ 32)) (a / 2 ^ 32 * (b % 2 ^ 32)) (a % 2 ^ 32 * (b / 2 ^ 32)) (a % 2 ^ 32 * (b % 2 ^ 32))
+mul64-halves a b =
+    mul-wraps (a / 2 ^ 32 * (b / 2 ^ 32)) (a / 2 ^ 32 * (b % 2 ^ 32)) (a % 2 ^ 32 * (b / 2 ^ 32)) (a % 2 ^ 32 * (b % 2 ^ 32))
     ∙ ap (λ (n : ℕ). n % 2 ^ 64)
-    (sym (columns (2 ^ 32) (a % 2 ^ 32) (a / 2 ^ 32) (b % 2 ^ 32) (b / 2 ^ 32))
+    (sym (mul-columns (2 ^ 32) (a % 2 ^ 32) (a / 2 ^ 32) (b % 2 ^ 32) (b / 2 ^ 32))
     ∙ ap₂ (λ (x y : ℕ). x * y) (div-add-mod' a (2 ^ 32)) (div-add-mod' b (2 ^ 32)))
 
 -- ---- rotation
@@ -42,54 +42,54 @@ shl-low x j k =
     ∙ ap₂ (λ (a b : ℕ). a % 2 ^ j * 2 ^ k + b) (shl-shr x k) (mul-mod-left x (2 ^ k))
     ∙ add-zero (x % 2 ^ j * 2 ^ k)
 
-rotation-at : (x j k : ℕ) → x < 2 ^ (k + j) → bitOr (x * 2 ^ k % 2 ^ (j + k)) (x / 2 ^ j) ≡ x * 2 ^ k % 2 ^ (j + k) + x / 2 ^ j
-rotation-at x j k h =
+or-rotated : (x j k : ℕ) → x < 2 ^ (k + j) → bitOr (x * 2 ^ k % 2 ^ (j + k)) (x / 2 ^ j) ≡ x * 2 ^ k % 2 ^ (j + k) + x / 2 ^ j
+or-rotated x j k h =
     ap (λ (a : ℕ). bitOr a (x / 2 ^ j)) (shl-low x j k)
     ∙ or-shifted (x % 2 ^ j) k (x / 2 ^ j) (shr-lt k j h)
     ∙ ap (λ (a : ℕ). a + x / 2 ^ j) (sym (shl-low x j k))
 
-pub rotation : (x n : ℕ) → x < 2 ^ 64 → n < 64 → bitOr (x * 2 ^ n % 2 ^ 64) (x / 2 ^ (64 - n)) ≡ rotl64 x n
-rotation x n hx hn =
+pub rotl64-or : (x n : ℕ) → x < 2 ^ 64 → n < 64 → bitOr (x * 2 ^ n % 2 ^ 64) (x / 2 ^ (64 - n)) ≡ rotl64 x n
+rotl64-or x n hx hn =
     let e : 64 - n + n ≡ 64 = omega arith in
     let f : n + (64 - n) ≡ 64 = omega arith in
     subst (λ (w : ℕ). bitOr (x * 2 ^ n % 2 ^ w) (x / 2 ^ (64 - n)) ≡ x * 2 ^ n % 2 ^ w + x / 2 ^ (64 - n)) e
-    (rotation-at x (64 - n) n (subst (λ (w : ℕ). x < 2 ^ w) (sym f) hx))
+    (or-rotated x (64 - n) n (subst (λ (w : ℕ). x < 2 ^ w) (sym f) hx))
 
 -- ---- one turn more
 
-pub lanes-more : (xs : List ℕ) (n : ℕ) → lanesOf xs (n + 1) ≡ stripeOf xs (n * 32) (lanesOf xs n)
+pub lanesOf-more : (xs : List ℕ) (n : ℕ) → lanesOf xs (n + 1) ≡ stripeOf xs (n * 32) (lanesOf xs n)
 unfolding lanesOf
-lanes-more xs n = rw add-one
+lanesOf-more xs n = rw add-one
 
 -- a tail with nothing in it, with one number, with one more
 module _ (mix : ℕ → ℕ → ℕ) (size : ℕ) (xs : List ℕ) (i acc : ℕ) where
-  pub tail-none : tailOf mix size xs i acc 0 ≡ acc
+  pub tailOf-none : tailOf mix size xs i acc 0 ≡ acc
   unfolding tailOf
-  tail-none = refl
+  tailOf-none = refl
 
-  pub tail-one : tailOf mix size xs i acc 1 ≡ mix acc (le xs i size)
+  pub tailOf-one : tailOf mix size xs i acc 1 ≡ mix acc (le xs i size)
   unfolding tailOf
-  tail-one = rw (mul-zero, add-zero)
+  tailOf-one = rw (mul-zero, add-zero)
 
-  pub tail-more : (n : ℕ) → tailOf mix size xs i acc (n + 1) ≡ mix (tailOf mix size xs i acc n) (le xs (i + size * n) size)
+  pub tailOf-more : (n : ℕ) → tailOf mix size xs i acc (n + 1) ≡ mix (tailOf mix size xs i acc n) (le xs (i + size * n) size)
   unfolding tailOf
-  tail-more n = rw add-one
+  tailOf-more n = rw add-one
 
-pub bytes-more : (mix : ℕ → ℕ → ℕ) (xs : List ℕ) (i acc n : ℕ)
+pub tailOf-byte : (mix : ℕ → ℕ → ℕ) (xs : List ℕ) (i acc n : ℕ)
     → tailOf mix 1 xs i acc (n + 1) ≡ mix (tailOf mix 1 xs i acc n) (getD xs (i + n) 0)
-bytes-more mix xs i acc n = rw (tail-more, le-one, one-mul)
+tailOf-byte mix xs i acc n = rw (tailOf-more, le-one, one-mul)
 
 -- ---- the two ways through the hash
 
-pub short : (xs : List ℕ) → length xs < 32 → xxh64 xs ≡ avalancheOf (restOf xs 0 (length xs % 32) (add64 P5 (length xs)))
+pub xxh64-short : (xs : List ℕ) → length xs < 32 → xxh64 xs ≡ avalancheOf (restOf xs 0 (length xs % 32) (add64 P5 (length xs)))
 unfolding xxh64 totalOf startOf
-short xs h =
+xxh64-short xs h =
     let e : length xs / 32 * 32 ≡ 0 = omega arith in
     rw (lt-ltb (length xs) 32 h, e)
 
-pub long : (xs : List ℕ) → 32 ≤ length xs
+pub xxh64-long : (xs : List ℕ) → 32 ≤ length xs
     → xxh64 xs
     ≡ avalancheOf
     (restOf xs (length xs / 32 * 32) (length xs % 32) (add64 (convergeOf (lanesOf xs (length xs / 32))) (length xs)))
 unfolding xxh64 totalOf startOf
-long xs h = rw (le-ltb (length xs) 32 h)
+xxh64-long xs h = rw (le-ltb (length xs) 32 h)

@@ -23,7 +23,7 @@ struct State {
 }
 
 // a * b, modulo 2^64, from halves of 32 bits: `*` must not wrap. The product of the high halves is a multiple of 2^64.
-fn mul(a: u64, b: u64) -> u64
+pub fn mul(a: u64, b: u64) -> u64
     ensures { λ r. ⌜ r ≡ mul64 a b ⌝ }
 {
     let al = a % 4294967296;

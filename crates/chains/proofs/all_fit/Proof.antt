@@ -1,7 +1,7 @@
-use Rattle.chains.proofs.Segments.{all-long, all-met, all-short}
+use Rattle.chains.proofs.Segments.{all-long, all-counting, all-short}
 use mathlib.Core.Path.{_∙_}
 use native.Mathlib.Omega.{arith}
-use Rattle.chains.proofs.Segments.{chain-ended, chain-is-lost}
+use Rattle.chains.proofs.Walking.{told-ended, told-lost}
 use borrow.Author.Needs.{needs}
 use Prim.Native.Nat.{_-_}
 use Rattle.chains.proofs.Segments.{AllWalking, all-starts, all-turns, all-lost, all-ends}
@@ -20,13 +20,11 @@ loop-holds c = all-starts _ _ _
 chain-fits-requires : tie.Need-chain-fits-requires Inv-loop μ-loop
 chain-fits-requires c κs =
     let p = c .before .before .before in let the-loop = p .loop in
-    let start = p .before .before .before in (
-      start .pre .0,
-      search needs,
-      all-long (start .args .z) (start .args .img .now) (the-loop .inv) ∙ start .pre .1,
-      all-met (start .args .z)
-          (start .args .img .now) (the-loop .inv) (start .pre .2) (start .pre .0 .valid .segments .1 .1) (start .pre .0 .tierCount),
-    )
+    let start = p .before .before .before in
+    record {
+      counting = all-counting (start .args .z) (start .args .img .now) (the-loop .inv) (start .pre);
+      segmentIn = search needs;
+    }
 
 enum-known-k : tie.Need-enum-known-k Inv-loop μ-loop
 enum-known-k c = search needs
@@ -46,7 +44,7 @@ returns c =
     let p = c .before .before .before .before in let chain-fits = p .chain-fits in
     let start = p .before .before .before .before .before .before .before in
     all-lost (start .args .z) (start .args .img .now) (omega arith)
-    (chain-is-lost (start .args .z) (start .args .img .now) _ _ _ (chain-fits .result) (chain-fits .ensures) (c .enum-told .given .1))
+    (told-lost (chain-fits .ensures) (c .enum-told .given .1))
 
 add-total : tie.Need-add-total Inv-loop μ-loop
 add-total c =
@@ -58,8 +56,8 @@ add-total c =
       arith,
       all-short (start .args .z) (start .args .img .now)
           (all-turns (start .args .z) (start .args .img .now) (the-loop .inv) (test .taken)
-          (chain-ended (start .args .z) (start .args .img .now) _ _ _ (chain-fits .result) _ (chain-fits .ensures) (c .before .k .given .1)))
-          (start .pre .0 .valid .segments .1 .1) (start .pre .0 .tierCount),
+          (told-ended (chain-fits .ensures) (c .before .k .given .1)))
+          (start .pre .framed .valid .segments .1 .1) (start .pre .framed .tierCount),
     )
 
 add-s : tie.Need-add-s Inv-loop μ-loop
@@ -75,7 +73,7 @@ loop-again c =
     let p = p .before .before in let the-loop = p .loop in
     let start = p .before .before .before in
     all-turns (start .args .z) (start .args .img .now) (the-loop .inv) (test .taken)
-    (chain-ended (start .args .z) (start .args .img .now) _ _ _ (chain-fits .result) _ (chain-fits .ensures) (c .before .k .given .1))
+    (told-ended (chain-fits .ensures) (c .before .k .given .1))
 
 same-length-2 : tie.Need-same-length-2 Inv-loop μ-loop
 same-length-2 c =

@@ -4,7 +4,7 @@ use Rattle.lists.proofs.Decides.{decided-true, decided-false}
 use borrow.Author.Tests.{not-true, not-false}
 use borrow.Author.Needs.{needs}
 use Prim.Native.Nat.{_-_}
-use Rattle.chains.proofs.Segments.{Standing, standing-starts, standing-turns, standing-ends, chain-tier}
+use Rattle.chains.proofs.Standing.{Standing, standing-starts, standing-tier, standing-turns, standing-ends}
 use Rattle.chains.proofs.all_stand.Statement.{statement}
 use Rattle.chains.proofs.all_stand.Tie as tie
 
@@ -18,13 +18,13 @@ add-t : tie.Need-add-t Inv-loop μ-loop
 add-t c = search needs
 
 loop-holds : tie.Need-loop-holds Inv-loop μ-loop
-loop-holds c = rw add-one (standing-starts _ _ _ (c .before .pre .1) _)
+loop-holds c = rw add-one (standing-starts _ _ _ _ (c .before .pre))
 
 stands-requires : tie.Need-stands-requires Inv-loop μ-loop
 stands-requires c κs =
     let p = c .before in let the-loop = p .loop in
     let start = p .before .before in
-    (start .pre .0, rw (the-loop .inv .here (omega arith)) (chain-tier _ _ _ (start .pre .1) (start .pre .3) (the-loop .i) (omega arith)))
+    record { framed = start .pre .framed; isTier = standing-tier _ _ _ _ (start .pre) (the-loop .inv) (omega arith) }
 
 returns : tie.Need-returns Inv-loop μ-loop
 returns c =
@@ -37,7 +37,7 @@ next-of-requires : tie.Need-next-of-requires Inv-loop μ-loop
 next-of-requires c κs =
     let p = c .before .before .before in let the-loop = p .loop in
     let start = p .before .before in
-    (start .pre .0, rw (the-loop .inv .here (omega arith)) (chain-tier _ _ _ (start .pre .1) (start .pre .3) (the-loop .i) (omega arith)))
+    (start .pre .framed, standing-tier _ _ _ _ (start .pre) (the-loop .inv) (omega arith))
 
 add-i : tie.Need-add-i Inv-loop μ-loop
 add-i c = search needs
@@ -50,7 +50,7 @@ loop-again c =
     let p = c .before .before in let stands = p .stands in
     let p = p .before .before in let the-loop = p .loop in
     let start = p .before .before in
-    standing-turns (start .args .z) (start .args .img .now) (start .args .s) (start .pre .1) (start .pre .2) (the-loop .inv) (omega arith)
+    standing-turns (start .args .z) (start .args .img .now) (start .args .s) (start .args .n) (start .pre) (the-loop .inv) (omega arith)
     (rw (← the-loop .inv .here (omega arith), ← the-loop .inv .before)
     (decided-true (stands .result) (stands .ensures) (not-false _ (c .before .if1 .left))))
     (c .next-of .ensures)
@@ -58,7 +58,7 @@ loop-again c =
 returns-2 : tie.Need-returns-2 Inv-loop μ-loop
 returns-2 c =
     let start = c .before .before .before in
-    standing-ends _ _ _ (start .pre .1) (c .before .loop .inv) (omega arith)
+    standing-ends _ _ _ _ (start .pre) (c .before .loop .inv) (omega arith)
 
 pub all-stand-spec : {M : Type 1} → statement M
 all-stand-spec =

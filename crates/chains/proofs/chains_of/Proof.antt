@@ -1,12 +1,10 @@
-use Prim.Native.Nat.{ℕ}
 use native.Mathlib.Omega.{arith}
-use mathlib.Core.Path.{refl, sym}
-use lib.ListN.{replicate, length-replicate}
+use mathlib.Core.Path.{sym}
 use Rattle.layout.specs.Tiers.{tiers}
 use Rattle.layout.proofs.Bounds.{framed-bounded, products}
 use Rattle.lists.proofs.Decides.{decided-true, decided-false}
 use borrow.Author.Tests.{not-true, not-false}
-use Rattle.chains.proofs.Answer.{zeros-met, first-lost, first-long, first-met, first-few, free-lost, second-long, met-wrong, used-wrong, all-right}
+use Rattle.chains.proofs.FromWalks.{counting-starts, first-lost, first-counting, first-few, free-lost, second-long, met-wrong, used-wrong, all-right}
 use borrow.Author.Needs.{needs}
 use Rattle.chains.proofs.chains_of.Statement.{statement}
 use Rattle.chains.proofs.chains_of.Tie as tie
@@ -15,7 +13,7 @@ slice-aggregate-all-fit : tie.Need-slice-aggregate-all-fit
 slice-aggregate-all-fit c = search needs
 
 all-fit-requires : tie.Need-all-fit-requires
-all-fit-requires c κs = (c .before .before .pre, refl, zeros-met 1025)
+all-fit-requires c κs = counting-starts (c .before .before .pre)
 
 enum-known-used : tie.Need-enum-known-used
 enum-known-used c = search needs
@@ -27,9 +25,7 @@ returns : tie.Need-returns
 returns c =
     let p = c .before .before .before in let all-fit = p .all-fit in
     let start = p .before .before .before in
-    sym (first-lost (start .args .z) (start .args .img .now) (replicate 1025 0) (all-fit .last .1 .1 .0) (all-fit .result) (zeros-met 1025)
-    (length-replicate {A = ℕ} 1025 0) (start .pre .valid .segments .1 .1) (start .pre .tierCount) (all-fit .ensures)
-    (c .enum-told .given .1))
+    sym (first-lost (start .pre) (all-fit .ensures) (c .enum-told .given .1))
 
 first-free-requires : tie.Need-first-free-requires
 first-free-requires c κs = search needs
@@ -46,17 +42,11 @@ walk-requires : tie.Need-walk-requires
 walk-requires c κs =
     let p = c .before .before .before .before in let used = p .used in
     let p = p .before .before .before in let all-fit = p .all-fit in
-    let start = p .before .before .before in (
-      start .pre,
-      omega (arith, c .before .tier-count .ensures, start .pre .tierCount),
-      first-long (start .args .z) (start .args .img .now)
-          (replicate 1025 0) (all-fit .last .1 .1 .0) (all-fit .result) (zeros-met 1025) (length-replicate {A = ℕ} 1025 0)
-          (start .pre .valid .segments .1 .1) (start .pre .tierCount) (all-fit .ensures) (used .given .0 .0) (used .given .1),
-      first-met
-          (start .args .z) (start .args .img .now) (replicate 1025 0) (all-fit .last .1 .1 .0) (all-fit .result) (zeros-met 1025)
-          (length-replicate {A = ℕ} 1025 0) (start .pre .valid .segments .1 .1) (start .pre .tierCount) (all-fit .ensures) (used .given .0 .0)
-          (used .given .1),
-    )
+    let start = p .before .before .before in
+    record {
+      counting = first-counting (start .pre) (all-fit .ensures) (used .given .1);
+      few = omega (arith, c .before .tier-count .ensures, start .pre .tierCount);
+    }
 
 enum-known-free : tie.Need-enum-known-free
 enum-known-free c = search needs
@@ -72,10 +62,8 @@ returns-2 c =
     let p = p .before .before in let used = p .used in
     let p = p .before .before .before in let all-fit = p .all-fit in
     let start = p .before .before .before in
-    sym (free-lost (start .args .z) (start .args .img .now) (replicate 1025 0) (all-fit .last .1 .1 .0) (all-fit .result) (zeros-met 1025)
-    (length-replicate {A = ℕ} 1025 0) (start .pre .valid .segments .1 .1) (start .pre .tierCount) (all-fit .ensures) (used .given .0 .0)
-    (used .given .1) (walk .last .1 .1 .1 .1 .0) (first-free .result) (tier-count .result) (walk .result) (first-free .ensures)
-    (tier-count .ensures) (walk .ensures) (c .enum-told2 .given .1))
+    sym (free-lost (start .pre) (all-fit .ensures) (used .given .1) (tier-count .ensures) (first-free .ensures) (walk .ensures)
+    (c .enum-told2 .given .1))
 
 slice-aggregate-met-once : tie.Need-slice-aggregate-met-once
 slice-aggregate-met-once c = search needs
@@ -97,10 +85,7 @@ met-once-requires c κs =
     let start = p .before .before .before in
     omega (
       arith,
-      second-long (start .args .z) (start .args .img .now) (replicate 1025 0) (all-fit .last .1 .1 .0) (all-fit .result)
-          (zeros-met 1025) (length-replicate {A = ℕ} 1025 0) (start .pre .valid .segments .1 .1) (start .pre .tierCount) (all-fit .ensures)
-          (used .given .0 .0) (used .given .1) (walk .last .1 .1 .1 .1 .0) (first-free .result) (tier-count .result) (walk .result)
-          (first-free .ensures) (tier-count .ensures) (walk .ensures) (free .given .0 .0) (free .given .1),
+      second-long (start .pre) (all-fit .ensures) (used .given .1) (tier-count .ensures) (first-free .ensures) (walk .ensures) (free .given .1),
       start .pre .tierCount,
     )
 
@@ -114,10 +99,8 @@ returns-3 c =
     let p = p .before .before in let used = p .used in
     let p = p .before .before .before in let all-fit = p .all-fit in
     let start = p .before .before .before in
-    sym (met-wrong (start .args .z) (start .args .img .now) (replicate 1025 0) (all-fit .last .1 .1 .0) (all-fit .result) (zeros-met 1025)
-    (length-replicate {A = ℕ} 1025 0) (start .pre .valid .segments .1 .1) (start .pre .tierCount) (all-fit .ensures) (used .given .0 .0)
-    (used .given .1) (walk .last .1 .1 .1 .1 .0) (first-free .result) (tier-count .result) (walk .result) (first-free .ensures)
-    (tier-count .ensures) (walk .ensures) (free .given .0 .0) (free .given .1)
+    sym (met-wrong (start .pre) (all-fit .ensures) (used .given .1) (tier-count .ensures) (first-free .ensures) (walk .ensures)
+    (free .given .1)
     (decided-false (met-once .result) (met-once .ensures) (not-true _ (c .if1 .taken))))
 
 used-tiers-requires : tie.Need-used-tiers-requires
@@ -133,10 +116,8 @@ returns-4 c =
     let p = p .before .before in let used = p .used in
     let p = p .before .before .before in let all-fit = p .all-fit in
     let start = p .before .before .before in
-    sym (used-wrong (start .args .z) (start .args .img .now) (replicate 1025 0) (all-fit .last .1 .1 .0) (all-fit .result) (zeros-met 1025)
-    (length-replicate {A = ℕ} 1025 0) (start .pre .valid .segments .1 .1) (start .pre .tierCount) (all-fit .ensures) (used .given .0 .0)
-    (used .given .1) (walk .last .1 .1 .1 .1 .0) (first-free .result) (tier-count .result) (walk .result) (first-free .ensures)
-    (tier-count .ensures) (walk .ensures) (free .given .0 .0) (free .given .1) (used-tiers .result) (used-tiers .ensures) (c .if2 .taken))
+    sym (used-wrong (start .pre) (all-fit .ensures) (used .given .1) (tier-count .ensures) (first-free .ensures) (walk .ensures)
+    (free .given .1) (used-tiers .ensures) (c .if2 .taken))
 
 add-t12 : tie.Need-add-t12
 add-t12 c =
@@ -145,13 +126,7 @@ add-t12 c =
     let used = p .used in
     let p = p .before .before .before in let all-fit = p .all-fit in
     let start = p .before .before .before in
-    omega (
-      arith,
-      first-few (start .args .z) (start .args .img .now) (replicate 1025 0) (all-fit .last .1 .1 .0) (all-fit .result) (zeros-met 1025)
-          (length-replicate {A = ℕ} 1025 0) (start .pre .valid .segments .1 .1) (start .pre .tierCount) (all-fit .ensures) (used .given .0 .0)
-          (used .given .1),
-      start .pre .valid .segments .1 .1,
-    )
+    omega (arith, first-few (start .pre) (all-fit .ensures) (used .given .1), start .pre .valid .segments .1 .1)
 
 returns-5 : tie.Need-returns-5
 returns-5 c =
@@ -165,12 +140,9 @@ returns-5 c =
     let p = p .before .before in let used = p .used in
     let p = p .before .before .before in let all-fit = p .all-fit in
     let start = p .before .before .before in
-    sym (all-right (start .args .z) (start .args .img .now) (replicate 1025 0) (all-fit .last .1 .1 .0) (all-fit .result) (zeros-met 1025)
-    (length-replicate {A = ℕ} 1025 0) (start .pre .valid .segments .1 .1) (start .pre .tierCount) (all-fit .ensures) (used .given .0 .0)
-    (used .given .1) (walk .last .1 .1 .1 .1 .0) (first-free .result) (tier-count .result) (walk .result) (first-free .ensures)
-    (tier-count .ensures) (walk .ensures) (free .given .0 .0) (free .given .1)
-    (decided-true (met-once .result) (met-once .ensures) (not-false _ (if1 .left))) (used-tiers .result) (used-tiers .ensures)
-    (c .before .if2 .left))
+    sym (all-right (start .pre) (all-fit .ensures) (used .given .1) (tier-count .ensures) (first-free .ensures) (walk .ensures)
+    (free .given .1) (used-tiers .ensures)
+    (decided-true (met-once .result) (met-once .ensures) (not-false _ (if1 .left))) (c .before .if2 .left))
 
 pub chains-of-spec : {M : Type 1} → statement M
 chains-of-spec =

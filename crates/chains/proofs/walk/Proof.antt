@@ -2,7 +2,7 @@ use Rattle.layout.proofs.Bounds.{framed-bounded}
 use native.Mathlib.Omega.{arith}
 use borrow.Author.Needs.{needs}
 use Prim.Native.Nat.{_-_}
-use Rattle.chains.proofs.Walking.{Walking, walk-starts, walk-ends, walk-lost, walk-turns, walk-out}
+use Rattle.chains.proofs.Walking.{Walking, walk-starts, walk-met, walk-ends, walk-lost, walk-turns, walk-out}
 use Rattle.chains.proofs.walk.Statement.{statement}
 use Rattle.chains.proofs.walk.Tie as tie
 
@@ -13,12 +13,10 @@ abbrev μ-loop : tie.MeasureT-loop
 μ-loop z img start most times₀ count t₀ k₀ times t k = most - k
 
 tier-count-requires : tie.Need-tier-count-requires Inv-loop μ-loop
-tier-count-requires c κs = framed-bounded (c .before .before .pre .0)
+tier-count-requires c κs = framed-bounded (c .before .before .pre .counting .framed)
 
 loop-holds : tie.Need-loop-holds Inv-loop μ-loop
-loop-holds c =
-    let start = c .before .before .before in
-    walk-starts _ _ _ _ _ (start .pre .3)
+loop-holds c = walk-starts _ _ _ _ _
 
 same-length : tie.Need-same-length Inv-loop μ-loop
 same-length c = search needs
@@ -51,7 +49,8 @@ slice-read-times c = search needs
 add-times : tie.Need-add-times Inv-loop μ-loop
 add-times c =
     let p = c .before .before .before .before .before .before in let the-loop = p .loop in
-    omega (arith, the-loop .inv .bound (the-loop .t))
+    let start = p .before .before .before .before in
+    omega (arith, walk-met _ _ _ _ _ (the-loop .inv) (start .pre .counting .met) (the-loop .t))
 
 slice-write-times : tie.Need-slice-write-times Inv-loop μ-loop
 slice-write-times c = search needs

@@ -35,7 +35,10 @@ chunks-for-requires c κs =
     let args = p .before .before .before .before .before .args in
     let lengths = entry-lengths (args .block .now) (args .img .now) (args .key .now) (args .value .now) (asked-key .result) (asked-key .ensures)
     (asked .0 .0) (asked .0 .1 .0) (asked .1) (omega (arith, c .if1 .left)) in
-    (key-valid (args .block .now) (args .img .now) (args .key .now) (asked .0 .0) (asked .0 .1 .0) (asked-key .ensures) (asked .1), lengths .0, lengths .1)
+    record {
+      valid = key-valid (args .block .now) (args .img .now) (args .key .now) (asked .0 .0) (asked .0 .1 .0) (asked-key .ensures) (asked .1);
+      lengths = record { keySmall = lengths .0; valueSmall = lengths .1 };
+    }
 
 returns-3 : tie.Need-returns-3
 returns-3 c =

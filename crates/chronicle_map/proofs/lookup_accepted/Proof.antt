@@ -7,7 +7,10 @@ use Rattle.chronicle_map.proofs.lookup_accepted.Tie as tie
 search-requires : tie.Need-search-requires
 search-requires c κs =
     let start = c .before .before in
-    (sound-framed (start .args .z) (start .args .img .now) (start .pre), sound-tiers (start .args .z) (start .args .img .now) (start .pre))
+    record {
+      framed = sound-framed (start .args .z) (start .args .img .now) (start .pre);
+      chainTiers = sound-tiers (start .args .z) (start .args .img .now) (start .pre);
+    }
 
 enum-known-t : tie.Need-enum-known-t
 enum-known-t c = search needs
@@ -30,7 +33,7 @@ entry-at-requires c κs =
     let z = start .args .z in
     let img = start .args .img .now in
     let at = old-in z img (start .pre) (start .args .key .now) (the-search .result) (the-search .ensures) (found .0 .0) (found .0 .1 .0) (found .1) in
-    (sound-framed z img (start .pre), at .0, at .1)
+    record { tier = record { framed = sound-framed z img (start .pre); tierIn = at .0 }; slotIn = at .1 }
 
 returns-2 : tie.Need-returns-2
 returns-2 c =

@@ -14,11 +14,11 @@ Inv-loop z img t i₀ i = (i ≤ z .settings .chunks) × Below i (λ k. mark z i
 abbrev μ-loop : tie.MeasureT-loop
 μ-loop z img t i₀ i = z .settings .chunks - i
 
-clear-bytes-requires : tie.Need-clear-bytes-requires Inv-loop μ-loop
-clear-bytes-requires c κs = search needs
+whole-bytes-requires : tie.Need-whole-bytes-requires Inv-loop μ-loop
+whole-bytes-requires c κs = search needs
 
 loop-holds : tie.Need-loop-holds Inv-loop μ-loop
-loop-holds c = c .clear-bytes .ensures
+loop-holds c = c .whole-bytes .ensures
 
 mark-requires : tie.Need-mark-requires Inv-loop μ-loop
 mark-requires c κs = search needs
@@ -48,7 +48,7 @@ all-clear-spec =
     (tie.spec
     Inv-loop
     μ-loop
-    clear-bytes-requires
+    whole-bytes-requires
     loop-holds
     mark-requires
     returns

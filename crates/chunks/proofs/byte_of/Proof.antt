@@ -5,17 +5,27 @@ use Rattle.chunks.proofs.byte_of.Statement.{statement}
 use Rattle.chunks.proofs.byte_of.Tie as tie
 
 add-result : tie.Need-add-result
-add-result c = omega (arith, free-inside (c .pre .0) (c .args .t) (c .pre .1), c .pre .0 .within, c .pre .0 .small, c .pre .2, c .pre .3)
+add-result c =
+    let tier = c .pre .tier in
+    omega (arith, free-inside (tier .framed) (c .args .t) (tier .tierIn), tier .framed .within, tier .framed .small, c .pre .atIs, c .pre .ends)
 
 shared-slice-read-result : tie.Need-shared-slice-read-result
 shared-slice-read-result c =
     let start = c .before in
-    omega (arith, free-inside (start .pre .0) (start .args .t) (start .pre .1), start .pre .0 .within, start .pre .0 .small, start .pre .2, start .pre .3)
+    let tier = start .pre .tier in
+    omega (
+      arith,
+      free-inside (tier .framed) (start .args .t) (tier .tierIn),
+      tier .framed .within,
+      tier .framed .small,
+      start .pre .atIs,
+      start .pre .ends,
+    )
 
 returns : tie.Need-returns
 returns c =
     let start = c .before in
-    byte-bits (start .args .z) (start .args .img .now) (start .args .t) (start .args .i) (start .pre .4) _ (start .pre .2)
+    byte-bits (start .args .z) (start .args .img .now) (start .args .t) (start .args .i) (start .pre .even) _ (start .pre .atIs)
 
 pub byte-of-spec : {M : Type 1} → statement M
 byte-of-spec = tie.close (tie.spec add-result shared-slice-read-result returns)

@@ -34,13 +34,18 @@ byte-of-requires c κs =
     let p = c .before in let the-loop = p .loop in
     let p = p .before .before in let free-list-at = p .free-list-at in
     let start = p .before .before .before in
-    (start .pre .0, start .pre .1, free-list-at .ensures, whole-room (the-loop .inv .1) (omega (arith, the-loop .inv .0)) .0, the-loop .inv .1 .even)
+    record {
+      tier = start .pre .tier;
+      atIs = free-list-at .ensures;
+      ends = whole-room (the-loop .inv .1) (omega (arith, the-loop .inv .0)) .0;
+      even = the-loop .inv .1 .even;
+    }
 
 byte-agrees-requires : tie.Need-byte-agrees-requires Inv-loop μ-loop
 byte-agrees-requires c κs =
     let p = c .before .before in let the-loop = p .loop in
     let start = p .before .before .before .before .before in
-    omega (arith, whole-room (the-loop .inv .1) (omega (arith, the-loop .inv .0)) .0, start .pre .2)
+    omega (arith, whole-room (the-loop .inv .1) (omega (arith, the-loop .inv .0)) .0, start .pre .long)
 
 returns : tie.Need-returns Inv-loop μ-loop
 returns c =
@@ -68,14 +73,14 @@ add-marked c =
       the-loop .inv .2,
       the-loop .inv .0,
       the-loop .inv .1 .low,
-      start .pre .0 .valid .chunks .1,
+      start .pre .tier .framed .valid .chunks .1,
     )
 
 add-i : tie.Need-add-i Inv-loop μ-loop
 add-i c =
     let p = c .before .before .before .before .before in let the-loop = p .loop in
     let start = p .before .before .before .before .before in
-    omega (arith, the-loop .inv .0, start .pre .0 .valid .chunks .1)
+    omega (arith, the-loop .inv .0, start .pre .tier .framed .valid .chunks .1)
 
 loop-less : tie.Need-loop-less Inv-loop μ-loop
 loop-less c = search needs

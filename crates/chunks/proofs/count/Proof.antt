@@ -26,7 +26,7 @@ slice-read-covered c = omega (arith, counting-long (c .before .before .loop .inv
 add-covered-2 : tie.Need-add-covered-2 Inv-loop μ-loop
 add-covered-2 c =
     let start = c .before .before .before in
-    omega (arith, counting-small (c .before .before .loop .inv) (start .pre .1) (omega arith))
+    omega (arith, counting-small (c .before .before .loop .inv) (start .pre .few) (omega arith))
 
 slice-write-covered : tie.Need-slice-write-covered Inv-loop μ-loop
 slice-write-covered c = omega (arith, counting-long (c .before .before .loop .inv))

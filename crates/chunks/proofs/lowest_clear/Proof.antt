@@ -16,11 +16,11 @@ Inv-loop z img t i₀ i = (i ≤ z .settings .chunks) × Below i (λ k. mark z i
 abbrev μ-loop : tie.MeasureT-loop
 μ-loop z img t i₀ i = z .settings .chunks - i
 
-marked-bytes-requires : tie.Need-marked-bytes-requires Inv-loop μ-loop
-marked-bytes-requires c κs = search needs
+whole-bytes-requires : tie.Need-whole-bytes-requires Inv-loop μ-loop
+whole-bytes-requires c κs = search needs
 
 loop-holds : tie.Need-loop-holds Inv-loop μ-loop
-loop-holds c = c .marked-bytes .ensures
+loop-holds c = (c .whole-bytes .ensures .0, λ k h e. omega (arith, c .whole-bytes .ensures .1 k h))
 
 mark-requires : tie.Need-mark-requires Inv-loop μ-loop
 mark-requires c κs = search needs
@@ -54,7 +54,7 @@ lowest-clear-spec =
     (tie.spec
     Inv-loop
     μ-loop
-    marked-bytes-requires
+    whole-bytes-requires
     loop-holds
     mark-requires
     returns

@@ -78,14 +78,14 @@ add-marked c =
       marked-le (start .args .z) (start .args .img .now) (start .args .t) (the-loop .i),
       the-loop .inv .2 .1,
       c .before .before .mark .ensures .1,
-      start .pre .0 .valid .chunks .1,
+      start .pre .tier .framed .valid .chunks .1,
     )
 
 add-i : tie.Need-add-i Inv-loop μ-loop
 add-i c =
     let p = c .before .before .before .before in let the-loop = p .loop in
     let start = p .before .before .before .before .before .before .before .before .before in
-    omega (arith, the-loop .inv .1, start .pre .0 .valid .chunks .1)
+    omega (arith, the-loop .inv .1, start .pre .tier .framed .valid .chunks .1)
 
 loop-less : tie.Need-loop-less Inv-loop μ-loop
 loop-less c = search needs

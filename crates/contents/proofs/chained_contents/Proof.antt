@@ -23,17 +23,22 @@ loop-holds c =
 chain-contents-requires : tie.Need-chain-contents-requires Inv-loop μ-loop
 chain-contents-requires c κs =
     let start = c .before .before .before .before in
-    (start .pre .0, start .pre .1, c .if1 .taken, start .pre .2 (c .before .before .loop .s) (c .if1 .taken))
+    record {
+      chains = start .pre .chains;
+      segmentIn = c .if1 .taken;
+      fits = start .pre .fits .segmentsFit (c .before .before .loop .s) (c .if1 .taken);
+    }
 
 joined-requires : tie.Need-joined-requires Inv-loop μ-loop
 joined-requires c κs =
     let p = c .before .before .before in let the-loop = p .loop in
-    let start = p .before .before in (
-      all-small (start .args .z) (start .args .img .now) (the-loop .inv) (start .pre .0 .valid .segments .1 .1),
-      chain-small (start .args .z)
-          (start .args .img .now) (start .pre .0 .valid .slots .1 .1) (start .pre .0 .valid .chunks .1) (start .pre .0 .tierCount) (the-loop .s)
-          (c .chain-contents .result) (c .chain-contents .ensures),
-    )
+    let start = p .before .before in
+    let framed = start .pre .chains .framed in
+    record {
+      left = all-small (start .args .z) (start .args .img .now) (the-loop .inv) (framed .valid .segments .1 .1);
+      right = chain-small (start .args .z) (start .args .img .now) (framed .valid .slots .1 .1) (framed .valid .chunks .1)
+          (framed .tierCount) (the-loop .s) (c .chain-contents .result) (c .chain-contents .ensures);
+    }
 
 add-s : tie.Need-add-s Inv-loop μ-loop
 add-s c = search needs
@@ -45,8 +50,9 @@ loop-again : tie.Need-loop-again Inv-loop μ-loop
 loop-again c =
     let p = c .before .before .before .before in let the-loop = p .loop in
     let start = p .before .before in
-    all-turns (start .args .z) (start .args .img .now) (the-loop .inv) (start .pre .0 .valid .slots .1 .1) (start .pre .0 .valid .chunks .1)
-    (start .pre .0 .tierCount) (c .before .before .if1 .taken) (c .before .chain-contents .ensures) (c .joined .ensures)
+    let framed = start .pre .chains .framed in
+    all-turns (start .args .z) (start .args .img .now) (the-loop .inv) (framed .valid .slots .1 .1) (framed .valid .chunks .1)
+    (framed .tierCount) (c .before .before .if1 .taken) (c .before .chain-contents .ensures) (c .joined .ensures)
 
 returns : tie.Need-returns Inv-loop μ-loop
 returns c =
@@ -54,7 +60,7 @@ returns c =
     let start = p .before .before in (
       all-ends (start .args .z) (start .args .img .now) (the-loop .inv) (omega (arith, c .if1 .left)),
       all-small (start .args .z)
-          (start .args .img .now) (the-loop .inv) (start .pre .0 .valid .segments .1 .1),
+          (start .args .img .now) (the-loop .inv) (start .pre .chains .framed .valid .segments .1 .1),
     )
 
 pub chained-contents-spec : {M : Type 1} → statement M

@@ -17,17 +17,19 @@ free-contents-requires : tie.Need-free-contents-requires
 free-contents-requires c κs = search needs
 
 joined-requires : tie.Need-joined-requires
-joined-requires c κs = (
-  c .before .chained-contents .ensures .1,
-  says-small 4294967296 (omega arith) (omega arith) (c .free-contents .result) (c .free-contents .ensures),
-)
+joined-requires c κs =
+    record {
+      left = c .before .chained-contents .ensures .1;
+      right = says-small 4294967296 (omega arith) (omega arith) (c .free-contents .result) (c .free-contents .ensures);
+    }
 
 returns : tie.Need-returns
 returns c =
     let p = c .before .before .before in let shared-slice-known = p .shared-slice-known in
     let start = p .before in
     contents-told (start .args .z) (start .args .img .now)
-    (record { bytes = λ i. omega (arith, shared-slice-known .given i); framed = start .pre .0 }) (start .pre .1)
+    (record { bytes = λ i. omega (arith, shared-slice-known .given i); framed = start .pre .chains .framed })
+    (start .pre .chains .chainTiers)
     (c .before .before .chained-contents .ensures .0) (c .before .free-contents .ensures) (c .joined .ensures)
 
 pub contents-of-spec : {M : Type 1} → statement M

@@ -27,15 +27,15 @@ mul-j c =
     omega (
       arith,
       (c .loop-test .taken),
-      start .pre .4 .within,
-      full-few (start .args .z) (start .args .img .now) (start .args .t) (start .pre .4),
-      start .pre .0 .valid .slots,
+      start .pre .lists .within,
+      full-few (start .args .z) (start .args .img .now) (start .args .t) (start .pre .lists),
+      start .pre .tier .chains .framed .valid .slots,
     )
 
 shared-slice-read-j : tie.Need-shared-slice-read-j Inv-loop μ-loop
 shared-slice-read-j c =
     let start = c .before .before .before .before .before .before in
-    omega (arith, (c .before .loop-test .taken), start .pre .4 .within)
+    omega (arith, (c .before .loop-test .taken), start .pre .lists .within)
 
 cast-j : tie.Need-cast-j Inv-loop μ-loop
 cast-j c = omega (arith, c .shared-slice-known3 .given (c .before .before .loop .i))
@@ -44,16 +44,9 @@ slot-fits-requires : tie.Need-slot-fits-requires Inv-loop μ-loop
 slot-fits-requires c κs =
     let p = c .before in let loop-test = p .loop-test in
     let p = p .before in let the-loop = p .loop in
-    let start = p .before .before .before .before in (
-      start .pre .0,
-      start .pre .1,
-      start .pre .2,
-      start .pre .3,
-      listed (start .args .z) (start .args .img .now) (start .args .t)
-          (start .pre .4) (the-loop .i) (loop-test .taken) .0,
-      listed (start .args .z) (start .args .img .now) (start .args .t) (start .pre .4)
-          (the-loop .i) (loop-test .taken) .1,
-    )
+    let start = p .before .before .before .before in
+    let slot = listed (start .args .z) (start .args .img .now) (start .args .t) (start .pre .lists) (the-loop .i) (loop-test .taken) in
+    record { tier = start .pre .tier; slotIn = slot .0; full = slot .1 }
 
 enum-known-c : tie.Need-enum-known-c Inv-loop μ-loop
 enum-known-c c = search needs
@@ -75,7 +68,7 @@ returns c =
     let p = p .before in let the-loop = p .loop in
     let start = p .before .before .before .before in
     covering-lost (start .args .z) (start .args .img .now) (start .args .s) (start .args .t) (start .args .list .now) (start .args .full)
-    (the-loop .inv) (start .pre .4) (loop-test .taken) (slot-fits .result) (slot-fits .ensures) (c .enum-told .given .1)
+    (the-loop .inv) (start .pre .lists) (loop-test .taken) (slot-fits .result) (slot-fits .ensures) (c .enum-told .given .1)
 
 count-requires : tie.Need-count-requires Inv-loop μ-loop
 count-requires c κs =
@@ -83,25 +76,31 @@ count-requires c κs =
     let p = p .before .before in let slot-fits = p .slot-fits in
     let p = p .before .before in let loop-test = p .loop-test in
     let p = p .before in let the-loop = p .loop in
-    let start = p .before .before .before .before in (
-      omega (
+    let start = p .before .before .before .before in
+    record {
+      ends = omega (
         arith,
         range-in (start .args .z) (start .args .img .now) (start .args .s) (start .args .t) (start .args .list .now) (start .args .full)
-            (the-loop .inv) (start .pre .4) (loop-test .taken) (slot-fits .result) (slot-fits .ensures) (c2 .given .0 .0) (c2 .given .0 .1 .0)
+            (the-loop .inv) (start .pre .lists) (loop-test .taken) (slot-fits .result) (slot-fits .ensures) (c2 .given .0 .0) (c2 .given .0 .1 .0)
             (c2 .given .1),
         covering-long (start .args .z) (start .args .img .now) (start .args .s) (start .args .t) (start .args .list .now) (start .args .full)
             (the-loop .inv),
-        start .pre .5,
-      ),
-      covering-small (start .args .z) (start .args .img .now) (start .args .s) (start .args .t) (start .args .list .now) (start .args .full)
-          (the-loop .inv) (start .pre .4) (start .pre .6) (start .pre .0 .valid .slots .1 .1),
-    )
+        start .pre .long,
+      );
+      few = covering-small (start .args .z) (start .args .img .now) (start .args .s) (start .args .t) (start .args .list .now) (start .args .full)
+          (the-loop .inv) (start .pre .lists) (start .pre .zeros) (start .pre .tier .chains .framed .valid .slots .1 .1);
+    }
 
 add-i : tie.Need-add-i Inv-loop μ-loop
 add-i c =
     let p = c .before .before .before .before .before .before .before .before .before in let loop-test = p .loop-test in
     let start = p .before .before .before .before .before in
-    omega (arith, (loop-test .taken), full-few (start .args .z) (start .args .img .now) (start .args .t) (start .pre .4), start .pre .0 .valid .slots)
+    omega (
+      arith,
+      loop-test .taken,
+      full-few (start .args .z) (start .args .img .now) (start .args .t) (start .pre .lists),
+      start .pre .tier .chains .framed .valid .slots,
+    )
 
 loop-less : tie.Need-loop-less Inv-loop μ-loop
 loop-less c =
@@ -116,7 +115,7 @@ loop-again c =
     let p = p .before in let the-loop = p .loop in
     let start = p .before .before .before .before in
     covering-turns (start .args .z) (start .args .img .now) (start .args .s) (start .args .t) (start .args .list .now) (start .args .full)
-    (the-loop .inv) (start .pre .4) (loop-test .taken) (slot-fits .result) (slot-fits .ensures) (c2 .given .0 .0) (c2 .given .0 .1 .0)
+    (the-loop .inv) (start .pre .lists) (loop-test .taken) (slot-fits .result) (slot-fits .ensures) (c2 .given .0 .0) (c2 .given .0 .1 .0)
     (c2 .given .1) (c .before .before .count .ensures)
 
 same-length-2 : tie.Need-same-length-2 Inv-loop μ-loop
@@ -129,7 +128,7 @@ returns-2 : tie.Need-returns-2 Inv-loop μ-loop
 returns-2 c =
     let start = c .before .before .before .before .before in
     covering-ends (start .args .z) (start .args .img .now) (start .args .s) (start .args .t) (start .args .list .now) (start .args .full)
-    (c .before .loop .inv) (start .pre .4) (omega (arith, c .loop-test .left))
+    (c .before .loop .inv) (start .pre .lists) (omega (arith, c .loop-test .left))
 
 pub cover-spec : {M : Type 1} → statement M
 cover-spec =

@@ -43,7 +43,7 @@ add-t10 c =
     let start = p .before .before in
     omega (
       arith,
-      can-add (start .args .a) (start .args .b) (start .pre .0) (start .pre .1) (a2 .given .0 .0) (a2 .given .0 .1 .0) (a2 .given .1)
+      can-add (start .args .a) (start .args .b) (start .pre .left) (start .pre .right) (a2 .given .0 .0) (a2 .given .0 .1 .0) (a2 .given .1)
           (b2 .given .0 .0) (b2 .given .0 .1 .0) (b2 .given .1),
     )
 
@@ -54,7 +54,7 @@ add-t11 c =
     let start = p .before .before in
     omega (
       arith,
-      can-add (start .args .a) (start .args .b) (start .pre .0) (start .pre .1) (a2 .given .0 .0) (a2 .given .0 .1 .0) (a2 .given .1)
+      can-add (start .args .a) (start .args .b) (start .pre .left) (start .pre .right) (a2 .given .0 .0) (a2 .given .0 .1 .0) (a2 .given .1)
           (b2 .given .0 .0) (b2 .given .0 .1 .0) (b2 .given .1),
     )
 

@@ -1,6 +1,6 @@
 use Rattle.contents.proofs.OneTier.{no-empty, slot-wrong, holds, tier-wrong, marks-wrong, tier-right}
 use Rattle.contents.proofs.Covering.{full-is}
-use Rattle.chains.proofs.Answer.{zeros-met}
+use Rattle.chains.proofs.Tally.{zeros-met}
 use Rattle.lists.proofs.Decides.{decided-true, decided-false}
 use borrow.Author.Tests.{not-true, not-false}
 use lib.ListN.{length-replicate}
@@ -12,7 +12,7 @@ use Rattle.contents.proofs.tier_contents.Reads as reads
 use Rattle.contents.proofs.tier_contents.Lts as lts
 use Rattle.chunks.proofs.marks_agree.Reads as marks-agree-reads
 use Rattle.contents.proofs.cover.Reads as cover-reads
-use Rattle.contents.proofs.full_slots.Reads as full-slots-reads
+use Rattle.contents.proofs.list_full.Reads as list-full-reads
 use Rattle.layout.proofs.read.count_of.Reads as count-of-reads
 use Rattle.search.proofs.rules.some_empty.Reads as some-empty-reads
 
@@ -26,11 +26,11 @@ returns c =
     no-empty (start .args .z) (start .args .img .now) (start .args .s) (start .args .t)
     (decided-false (some-empty .result) (some-empty .ensures) (not-true _ (c .if1 .taken)))
 
-slice-aggregate-full-slots : tie.Need-slice-aggregate-full-slots
-slice-aggregate-full-slots c = search needs
+slice-aggregate-list-full : tie.Need-slice-aggregate-list-full
+slice-aggregate-list-full c = search needs
 
-full-slots-requires : tie.Need-full-slots-requires
-full-slots-requires c κs = search needs
+list-full-requires : tie.Need-list-full-requires
+list-full-requires c κs = search needs
 
 slice-aggregate-cover : tie.Need-slice-aggregate-cover
 slice-aggregate-cover c = search needs
@@ -40,16 +40,14 @@ slice-aggregate-cover-2 c = search needs
 
 cover-requires : tie.Need-cover-requires
 cover-requires c κs =
-    let p = c .before .before .before in let full-slots = p .full-slots in
-    let start = p .before .before .before .before .before in (
-      start .pre .0,
-      start .pre .1,
-      start .pre .2,
-      start .pre .3,
-      full-slots .ensures,
-      rw length-replicate (start .pre .0 .valid .chunks .1),
-      zeros-met 4096,
-    )
+    let p = c .before .before .before in let list-full = p .list-full in
+    let start = p .before .before .before .before .before in
+    record {
+      tier = start .pre;
+      lists = list-full .ensures;
+      long = rw length-replicate (start .pre .chains .framed .valid .chunks .1);
+      zeros = zeros-met 4096;
+    }
 
 returns-2 : tie.Need-returns-2
 returns-2 c =
@@ -82,7 +80,7 @@ returns-3 c =
     (holds (start .args .z) (start .args .img .now) (start .args .s) (start .args .t)
     (decided-true (some-empty .result) (some-empty .ensures) (not-false _ (if1 .left)))
     (decided-true (cover .result) (cover .ensures .held) (not-false _ (if2 .left))))
-    (start .pre .0 .valid .chunks .1) (cover .ensures .counted (not-false _ (if2 .left))) (marks-agree .result) (marks-agree .ensures)
+    (start .pre .chains .framed .valid .chunks .1) (cover .ensures .counted (not-false _ (if2 .left))) (marks-agree .result) (marks-agree .ensures)
     (c .enum-told .given .1)
 
 count-of-requires : tie.Need-count-of-requires
@@ -92,7 +90,7 @@ returns-4 : tie.Need-returns-4
 returns-4 c =
     let p = c .before .before .before .before .before .before .before in let if2 = p .if2 in
     let p = p .before .before in let cover = p .cover in
-    let p = p .before .before .before .before in let full-slots = p .full-slots in
+    let p = p .before .before .before .before in let list-full = p .list-full in
     let p = p .before .before in let if1 = p .if1 in
     let p = p .before in let some-empty = p .some-empty in
     let start = p .before .before in
@@ -101,7 +99,7 @@ returns-4 c =
     (decided-true (some-empty .result) (some-empty .ensures) (not-false _ (if1 .left)))
     (decided-true (cover .result) (cover .ensures .held) (not-false _ (if2 .left))))
     (λ f. c .if3 .taken (c .before .count-of .ensures ∙ f .counters .entryCount ∙ sym
-    (full-is (start .args .z) (start .args .img .now) (start .args .t) (full-slots .ensures))))
+    (full-is (start .args .z) (start .args .img .now) (start .args .t) (list-full .ensures))))
 
 low-mark-fits-requires : tie.Need-low-mark-fits-requires
 low-mark-fits-requires c κs = search needs
@@ -129,7 +127,7 @@ returns-6 c =
     let p = p .before .before in let marks-agree = p .marks-agree in
     let p = p .before .before in let if2 = p .if2 in
     let p = p .before .before in let cover = p .cover in
-    let p = p .before .before .before .before in let full-slots = p .full-slots in
+    let p = p .before .before .before .before in let list-full = p .list-full in
     let p = p .before .before in let if1 = p .if1 in
     let p = p .before in let some-empty = p .some-empty in
     let start = p .before .before in
@@ -137,8 +135,8 @@ returns-6 c =
     (holds (start .args .z) (start .args .img .now) (start .args .s) (start .args .t)
     (decided-true (some-empty .result) (some-empty .ensures) (not-false _ (if1 .left)))
     (decided-true (cover .result) (cover .ensures .held) (not-false _ (if2 .left))))
-    (start .pre .0 .valid .chunks .1) (cover .ensures .counted (not-false _ (if2 .left))) (marks-agree .result) (marks-agree .ensures) _
-    (marked .given .1) (full-is (start .args .z) (start .args .img .now) (start .args .t) (full-slots .ensures))
+    (start .pre .chains .framed .valid .chunks .1) (cover .ensures .counted (not-false _ (if2 .left))) (marks-agree .result) (marks-agree .ensures) _
+    (marked .given .1) (full-is (start .args .z) (start .args .img .now) (start .args .t) (list-full .ensures))
     (sym (count-of .ensures) ∙ if3 .left) (decided-true (low-mark-fits .result) (low-mark-fits .ensures) (not-false _ (c .if4 .left)))
 
 pub tier-contents-spec : {M : Type 1} → statement M
@@ -147,8 +145,8 @@ tier-contents-spec =
     (tie.spec
     some-empty-requires
     returns
-    slice-aggregate-full-slots
-    full-slots-requires
+    slice-aggregate-list-full
+    list-full-requires
     slice-aggregate-cover
     slice-aggregate-cover-2
     cover-requires

@@ -1,36 +1,35 @@
 use mathlib.Core.Path.{_∙_}
 use Rattle.upkeep.proofs.Framing.{framed-again}
-use Rattle.edit.proofs.Replacing.{extends-joins, extended-is}
+use Rattle.edit.proofs.Replacing.{extended-is}
 use borrow.Author.Needs.{needs}
 use Rattle.edit.proofs.extend.Statement.{statement}
 use Rattle.edit.proofs.extend.Tie as tie
 
 take-out-requires : tie.Need-take-out-requires
-take-out-requires c κs = let asks = c .before .before .before .before .pre .replaces in (asks .framed, asks .oldFits)
+take-out-requires c κs = let asks = c .before .before .before .before .pre in (asks .framed, asks .oldFits)
 
 join-requires : tie.Need-join-requires
 join-requires c κs =
     let p = c .before .before .before in let take-out = p .take-out in
     let asks = p .before .before .before .before .before .pre in
-    let joins = extends-joins asks (take-out .ensures) in
-    (framed-again (take-out .kept .1 .0) (asks .replaces .framed), asks .segmentIn, joins .0, joins .1, joins .2)
+    rw (take-out .ensures) (asks .joins)
 
 place-at-requires : tie.Need-place-at-requires
 place-at-requires c κs =
     let p = c .before .before .before in let join = p .join in
     let p = p .before .before .before .before in let take-out = p .take-out in
-    let asks = p .before .before .before .before .before .pre .replaces in
-    (framed-again (join .kept .1 .0 ∙ take-out .kept .1 .0) (asks .framed), asks .tierIn, asks .keyLong, asks .valueLong, asks .rangeEnds)
+    let asks = p .before .before .before .before .before .pre in
+    rw (join .ensures, take-out .ensures) (asks .places)
 
 settle-requires : tie.Need-settle-requires
 settle-requires c κs =
     let p = c .before .before .before in let place-at = p .place-at in
     let p = p .before .before .before .before in let join = p .join in
     let p = p .before .before .before .before in let take-out = p .take-out in
-    let asks = p .before .before .before .before .before .pre .replaces in
+    let asks = p .before .before .before .before .before .pre in
     record {
       framed = framed-again (place-at .kept .1 .0 ∙ join .kept .1 .0 ∙ take-out .kept .1 .0) (asks .framed);
-      tierIn = asks .tierIn;
+      tierIn = asks .places .write .tier .tierIn;
       otherIn = asks .oldFits .tierIn;
     }
 

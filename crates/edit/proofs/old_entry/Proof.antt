@@ -12,7 +12,10 @@ use Rattle.search.proofs.search.Reads as search-reads
 search-requires : tie.Need-search-requires
 search-requires c κs =
     let start = c .before .before in
-    (sound-framed (start .args .z) (start .args .img .now) (start .pre), sound-tiers (start .args .z) (start .args .img .now) (start .pre))
+    record {
+      framed = sound-framed (start .args .z) (start .args .img .now) (start .pre);
+      chainTiers = sound-tiers (start .args .z) (start .args .img .now) (start .pre);
+    }
 
 enum-known-t : tie.Need-enum-known-t
 enum-known-t c = search needs
@@ -35,7 +38,7 @@ entry-at-requires c κs =
     let i =
     old-in (start .args .z) (start .args .img .now) (start .pre) (start .args .key .now) (the-search .result) (the-search .ensures)
     (t .given .0 .0) (t .given .0 .1 .0) (t .given .1) in
-    (sound-framed (start .args .z) (start .args .img .now) (start .pre), i .0, i .1)
+    record { tier = record { framed = sound-framed (start .args .z) (start .args .img .now) (start .pre); tierIn = i .0 }; slotIn = i .1 }
 
 chunk-of-requires : tie.Need-chunk-of-requires
 chunk-of-requires c κs =
@@ -45,17 +48,17 @@ chunk-of-requires c κs =
     let i =
     old-in (start .args .z) (start .args .img .now) (start .pre) (start .args .key .now) (the-search .result) (the-search .ensures)
     (t .given .0 .0) (t .given .0 .1 .0) (t .given .1) in
-    (sound-framed (start .args .z) (start .args .img .now) (start .pre), i .0, i .1)
+    record { tier = record { framed = sound-framed (start .args .z) (start .args .img .now) (start .pre); tierIn = i .0 }; slotIn = i .1 }
 
 chunks-for-requires : tie.Need-chunks-for-requires
 chunks-for-requires c κs =
     let p = c .before in let entry-at = p .entry-at in
     let p = p .before .before in let t = p .t in
     let start = p .before .before .before .before .before in
-    let i =
-    entry-lengths (start .args .z) (start .args .img .now) (t .given .0 .0) (t .given .0 .1 .0) (entry-at .result) (entry-at .ensures)
-    in
-    (start .pre .fits .valid, i .0, i .1)
+    record {
+      valid = start .pre .fits .valid;
+      lengths = entry-lengths (start .args .z) (start .args .img .now) (t .given .0 .0) (t .given .0 .1 .0) (entry-at .result) (entry-at .ensures);
+    }
 
 returns-2 : tie.Need-returns-2
 returns-2 c =

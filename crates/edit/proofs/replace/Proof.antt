@@ -12,14 +12,14 @@ place-at-requires : tie.Need-place-at-requires
 place-at-requires c κs =
     let p = c .before .before .before in let take-out = p .take-out in
     let asks = p .before .before .before .before .before .pre in
-    (framed-again (take-out .kept .1 .0) (asks .framed), asks .tierIn, asks .keyLong, asks .valueLong, asks .rangeEnds)
+    rw (take-out .ensures) (asks .places)
 
 settle-requires : tie.Need-settle-requires
 settle-requires c κs =
     let p = c .before .before .before in let place-at = p .place-at in
     let p = p .before .before .before .before in let take-out = p .take-out in
     let asks = p .before .before .before .before .before .pre in
-    record { framed = framed-again (place-at .kept .1 .0 ∙ take-out .kept .1 .0) (asks .framed); tierIn = asks .tierIn; otherIn = asks .oldFits .tierIn }
+    record { framed = framed-again (place-at .kept .1 .0 ∙ take-out .kept .1 .0) (asks .framed); tierIn = asks .places .write .tier .tierIn; otherIn = asks .oldFits .tierIn }
 
 same-length : tie.Need-same-length
 same-length c = search needs

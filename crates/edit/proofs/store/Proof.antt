@@ -3,6 +3,7 @@ use Rattle.edit.proofs.Storage.{some-chunks, scanned, no-room, run-repl
 use borrow.Author.Needs.{needs}
 use Rattle.edit.proofs.store.Statement.{statement}
 use Rattle.edit.proofs.store.Tie as tie
+use native.Mathlib.Omega.{arith}
 
 chunks-for-requires : tie.Need-chunks-for-requires
 chunks-for-requires c κs = search needs
@@ -53,9 +54,12 @@ returns c =
     let p = p .before .before in let segment-of-hash = p .segment-of-hash in
     let p = p .before in let xxh64 = p .xxh64 in
     let p = p .before in let chunks-for = p .chunks-for in
+    let value-known = p .before .shared-slice-known2 in
+    let key-known = p .before .before .shared-slice-known in
     let start = p .before .before .before .before in
     let w =
-    scanned (start .pre) (chunks-for .ensures) (xxh64 .ensures) (segment-of-hash .ensures .0) (old-entry .ensures) (first-run .ensures) in
+    scanned (start .pre) (λ i. omega (arith, key-known .given i)) (λ i. omega (arith, value-known .given i)) (chunks-for .ensures) (xxh64 .ensures)
+    (segment-of-hash .ensures .0) (old-entry .ensures) (first-run .ensures) in
     no-room w (first-free .result) (enum-told .given .1) (first-free .ensures) (c .if1 .taken)
 
 extend-requires : tie.Need-extend-requires
@@ -68,9 +72,12 @@ extend-requires c κs =
     let p = p .before .before in let segment-of-hash = p .segment-of-hash in
     let p = p .before in let xxh64 = p .xxh64 in
     let p = p .before in let chunks-for = p .chunks-for in
+    let value-known = p .before .shared-slice-known2 in
+    let key-known = p .before .before .shared-slice-known in
     let start = p .before .before .before .before in
     let w =
-    scanned (start .pre) (chunks-for .ensures) (xxh64 .ensures) (segment-of-hash .ensures .0) (old-entry .ensures) (first-run .ensures) in
+    scanned (start .pre) (λ i. omega (arith, key-known .given i)) (λ i. omega (arith, value-known .given i)) (chunks-for .ensures) (xxh64 .ensures)
+    (segment-of-hash .ensures .0) (old-entry .ensures) (first-run .ensures) in
     free-extends w (first-free .result) (enum-told .given .1) (first-free .ensures) (if1 .left)
 
 same-length-2 : tie.Need-same-length-2
@@ -87,9 +94,12 @@ returns-2 c =
     let p = p .before .before in let segment-of-hash = p .segment-of-hash in
     let p = p .before in let xxh64 = p .xxh64 in
     let p = p .before in let chunks-for = p .chunks-for in
+    let value-known = p .before .shared-slice-known2 in
+    let key-known = p .before .before .shared-slice-known in
     let start = p .before .before .before .before in
     let w =
-    scanned (start .pre) (chunks-for .ensures) (xxh64 .ensures) (segment-of-hash .ensures .0) (old-entry .ensures) (first-run .ensures) in
+    scanned (start .pre) (λ i. omega (arith, key-known .given i)) (λ i. omega (arith, value-known .given i)) (chunks-for .ensures) (xxh64 .ensures)
+    (segment-of-hash .ensures .0) (old-entry .ensures) (first-run .ensures) in
     free-stored w (first-free .result) (enum-told .given .1) (first-free .ensures) (if1 .left) (extend .ensures)
 
 replace-requires : tie.Need-replace-requires
@@ -100,9 +110,14 @@ replace-requires c κs =
     let p = p .before .before in let segment-of-hash = p .segment-of-hash in
     let p = p .before in let xxh64 = p .xxh64 in
     let p = p .before in let chunks-for = p .chunks-for in
+    let value-known = p .before .shared-slice-known2 in
+    let key-known = p .before .before .shared-slice-known in
+    let value-known = p .before .shared-slice-known2 in
+    let key-known = p .before .before .shared-slice-known in
     let start = p .before .before .before .before in
     let w =
-    scanned (start .pre) (chunks-for .ensures) (xxh64 .ensures) (segment-of-hash .ensures .0) (old-entry .ensures) (first-run .ensures) in
+    scanned (start .pre) (λ i. omega (arith, key-known .given i)) (λ i. omega (arith, value-known .given i)) (chunks-for .ensures) (xxh64 .ensures)
+    (segment-of-hash .ensures .0) (old-entry .ensures) (first-run .ensures) in
     run-replaces w (scan .given .0 .0) (scan .given .0 .1 .0) (scan .given .1)
 
 same-length-3 : tie.Need-same-length-3
@@ -117,9 +132,12 @@ returns-3 c =
     let p = p .before .before in let segment-of-hash = p .segment-of-hash in
     let p = p .before in let xxh64 = p .xxh64 in
     let p = p .before in let chunks-for = p .chunks-for in
+    let value-known = p .before .shared-slice-known2 in
+    let key-known = p .before .before .shared-slice-known in
     let start = p .before .before .before .before in
     let w =
-    scanned (start .pre) (chunks-for .ensures) (xxh64 .ensures) (segment-of-hash .ensures .0) (old-entry .ensures) (first-run .ensures) in
+    scanned (start .pre) (λ i. omega (arith, key-known .given i)) (λ i. omega (arith, value-known .given i)) (chunks-for .ensures) (xxh64 .ensures)
+    (segment-of-hash .ensures .0) (old-entry .ensures) (first-run .ensures) in
     run-stored w (scan .given .0 .0) (scan .given .0 .1 .0) (scan .given .1) (replace .ensures)
 
 pub store-spec : {M : Type 1} → statement M

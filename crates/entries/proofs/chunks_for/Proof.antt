@@ -1,7 +1,6 @@
-use Rattle.entries.proofs.Powers.{one-chunk}
 use Rattle.entries.specs.Stored.{chunksFor, valueOffset}
 use Rattle.lists.specs.Lists.{ceil}
-use Rattle.leb128.proofs.Encode.{encode-size}
+use Rattle.leb128.proofs.Encode.{length-encode}
 use mathlib.Core.Path.{ap, _∙_}
 use Prim.Native.Nat.{ℕ, _+_}
 use native.Mathlib.Omega.{arith}
@@ -11,6 +10,7 @@ use Rattle.entries.proofs.chunks_for.Tie as tie
 use Rattle.entries.proofs.chunks_for.Reads as reads
 use Rattle.entries.proofs.chunks_for.Lts as lts
 use Rattle.entries.proofs.value_offset.Reads as value-offset-reads
+use Rattle.lists.proofs.Numbers.{ceil-one}
 
 value-offset-requires : tie.Need-value-offset-requires
 value-offset-requires c κs = search needs
@@ -23,8 +23,8 @@ unfolding chunksFor valueOffset
 returns c =
     let p = c .before .before in let value-offset = p .value-offset in
     let start = p .before in
-    one-chunk (value-offset .result + start .args .v) (start .args .st .chunkSize)
-    (omega (arith, value-offset .ensures .0, encode-size (start .args .k) (start .pre .1) .0)) (c .if1 .taken) ∙ ap
+    ceil-one (value-offset .result + start .args .v) (start .args .st .chunkSize)
+    (omega (arith, value-offset .ensures .0, length-encode (start .args .k) (start .pre .lengths .keySmall) .0)) (c .if1 .taken) ∙ ap
     (λ (x : ℕ). ceil (x + start .args .v) (start .args .st .chunkSize)) (value-offset .ensures .0)
 
 add-result : tie.Need-add-result

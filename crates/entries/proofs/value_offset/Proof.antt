@@ -1,4 +1,4 @@
-use Rattle.leb128.proofs.Encode.{encode-size}
+use Rattle.leb128.proofs.Encode.{length-encode}
 use Rattle.entries.specs.Stored.{valueOffset}
 use native.Mathlib.Omega.{arith}
 use borrow.Author.Needs.{needs}
@@ -9,7 +9,7 @@ size-requires : tie.Need-size-requires
 size-requires c κs = search needs
 
 add-result : tie.Need-add-result
-add-result c = omega (arith, encode-size (c .before .args .k) (search needs))
+add-result c = omega (arith, length-encode (c .before .args .k) (search needs))
 
 size-requires-2 : tie.Need-size-requires-2
 size-requires-2 c κs = search needs
@@ -17,13 +17,13 @@ size-requires-2 c κs = search needs
 add-result-2 : tie.Need-add-result-2
 add-result-2 c =
     let start = c .before .before in
-    omega (arith, encode-size (start .args .k) (search needs), encode-size (start .args .v) (search needs))
+    omega (arith, length-encode (start .args .k) (search needs), length-encode (start .args .v) (search needs))
 
 returns : tie.Need-returns
 unfolding valueOffset
 returns c =
     let start = c .before .before in
-    omega (arith, encode-size (start .args .k) (search needs), encode-size (start .args .v) (search needs))
+    omega (arith, length-encode (start .args .k) (search needs), length-encode (start .args .v) (search needs))
 
 pub value-offset-spec : {M : Type 1} → statement M
 value-offset-spec =

@@ -51,15 +51,17 @@ contents-of-requires c κs =
     let p = p .before .before in let chains-of = p .chains-of in
     let p = p .before .before in let z = p .z in
     let p = p .before .before in let frame-of = p .frame-of in
-    let start = p .before .before in (
-      framed-here (start .args .st) (start .args .img .now) (start .pre) (z .given .0 .0) (sym (frame-of .ensures) ∙ z .given .1),
-      tiers-here
-          (start .args .st) (start .args .img .now) (start .pre) (z .given .0 .0) (sym (frame-of .ensures) ∙ z .given .1) (tiers .given .0 .0)
-          (tiers .given .0 .1 .0) (sym (chains-of .ensures) ∙ tiers .given .1),
-      chains-here (start .args .st) (start .args .img .now) (start .pre)
+    let start = p .before .before in
+    record {
+      chains = record {
+        framed = framed-here (start .args .st) (start .args .img .now) (start .pre) (z .given .0 .0) (sym (frame-of .ensures) ∙ z .given .1);
+        chainTiers = tiers-here (start .args .st) (start .args .img .now) (start .pre) (z .given .0 .0)
+            (sym (frame-of .ensures) ∙ z .given .1) (tiers .given .0 .0) (tiers .given .0 .1 .0) (sym (chains-of .ensures) ∙ tiers .given .1);
+      };
+      fits = chains-here (start .args .st) (start .args .img .now) (start .pre)
           (z .given .0 .0) (sym (frame-of .ensures) ∙ z .given .1) (tiers .given .0 .0) (tiers .given .0 .1 .0)
-          (sym (chains-of .ensures) ∙ tiers .given .1),
-    )
+          (sym (chains-of .ensures) ∙ tiers .given .1);
+    }
 
 enum-told-3 : tie.Need-enum-told-3
 enum-told-3 c = search needs

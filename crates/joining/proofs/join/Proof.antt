@@ -23,9 +23,9 @@ put-next-requires c κs =
     let e = c .before in
     let h = e .before .before .before .before .before .before in
     let b = h .before .before .before in (
-      b .pre .0,
-      subst (IsTier (b .args .z)) (sym (e .end-of-chain .ensures .0))
-          (last-tier (b .args .z) (b .args .img .now) (b .args .s) (b .pre .1) (b .pre .2)),
+      b .pre .follows .framed,
+      subst (IsTier (b .args .z)) (sym (e .end-of-chain .ensures .lastIs))
+          (last-tier (b .args .z) (b .args .img .now) (b .args .s) (b .pre .follows)),
     )
 
 put-first-free-requires : tie.Need-put-first-free-requires
@@ -44,10 +44,11 @@ put-next-requires-2 c κs =
     let l = f .before .before .before .before in
     let e = l .before .before in
     let h = e .before .before .before .before .before .before in
-    let b = h .before .before .before in (
-      framed-put _ _ _ (framed-put _ _ _ (framed-put _ _ _ (b .pre .0) (l .put-next .ensures)) (f .put-first-free .ensures))
-          (u .put-used-tiers .ensures),
-      subst (IsTier (b .args .z)) (sym (h .first-free .ensures)) (b .pre .3),
+    let b = h .before .before .before in
+    let after-last = framed-put _ _ _ (b .pre .follows .framed) (l .put-next .ensures) in
+    let after-head = framed-put _ _ _ after-last (f .put-first-free .ensures) in (
+      framed-put _ _ _ after-head (u .put-used-tiers .ensures),
+      subst (IsTier (b .args .z)) (sym (h .first-free .ensures)) (b .pre .freeIn),
     )
 
 put-previous-requires : tie.Need-put-previous-requires
@@ -58,10 +59,12 @@ put-previous-requires c κs =
     let l = f .before .before .before .before in
     let e = l .before .before in
     let h = e .before .before .before .before .before .before in
-    let b = h .before .before .before in (
-      framed-put _ _ _ (framed-put _ _ _ (framed-put _ _ _ (framed-put _ _ _ (b .pre .0) (l .put-next .ensures)) (f .put-first-free .ensures))
-          (u .put-used-tiers .ensures)) (n .put-next2 .ensures),
-      subst (IsTier (b .args .z)) (sym (h .first-free .ensures)) (b .pre .3),
+    let b = h .before .before .before in
+    let after-last = framed-put _ _ _ (b .pre .follows .framed) (l .put-next .ensures) in
+    let after-head = framed-put _ _ _ after-last (f .put-first-free .ensures) in
+    let after-used = framed-put _ _ _ after-head (u .put-used-tiers .ensures) in (
+      framed-put _ _ _ after-used (n .put-next2 .ensures),
+      subst (IsTier (b .args .z)) (sym (h .first-free .ensures)) (b .pre .freeIn),
     )
 
 put-segment-requires : tie.Need-put-segment-requires
@@ -73,11 +76,13 @@ put-segment-requires c κs =
     let l = f .before .before .before .before in
     let e = l .before .before in
     let h = e .before .before .before .before .before .before in
-    let b = h .before .before .before in (
-      framed-put _ _ _
-          (framed-put _ _ _ (framed-put _ _ _ (framed-put _ _ _ (framed-put _ _ _ (b .pre .0) (l .put-next .ensures)) (f .put-first-free .ensures))
-          (u .put-used-tiers .ensures)) (n .put-next2 .ensures)) (p .put-previous .ensures),
-      subst (IsTier (b .args .z)) (sym (h .first-free .ensures)) (b .pre .3),
+    let b = h .before .before .before in
+    let after-last = framed-put _ _ _ (b .pre .follows .framed) (l .put-next .ensures) in
+    let after-head = framed-put _ _ _ after-last (f .put-first-free .ensures) in
+    let after-used = framed-put _ _ _ after-head (u .put-used-tiers .ensures) in
+    let after-next = framed-put _ _ _ after-used (n .put-next2 .ensures) in (
+      framed-put _ _ _ after-next (p .put-previous .ensures),
+      subst (IsTier (b .args .z)) (sym (h .first-free .ensures)) (b .pre .freeIn),
     )
 
 put-order-requires : tie.Need-put-order-requires
@@ -90,11 +95,14 @@ put-order-requires c κs =
     let l = f .before .before .before .before in
     let e = l .before .before in
     let h = e .before .before .before .before .before .before in
-    let b = h .before .before .before in (
-      framed-put _ _ _ (framed-put _ _ _
-          (framed-put _ _ _ (framed-put _ _ _ (framed-put _ _ _ (framed-put _ _ _ (b .pre .0) (l .put-next .ensures)) (f .put-first-free .ensures))
-          (u .put-used-tiers .ensures)) (n .put-next2 .ensures)) (p .put-previous .ensures)) (g .put-segment .ensures),
-      subst (IsTier (b .args .z)) (sym (h .first-free .ensures)) (b .pre .3),
+    let b = h .before .before .before in
+    let after-last = framed-put _ _ _ (b .pre .follows .framed) (l .put-next .ensures) in
+    let after-head = framed-put _ _ _ after-last (f .put-first-free .ensures) in
+    let after-used = framed-put _ _ _ after-head (u .put-used-tiers .ensures) in
+    let after-next = framed-put _ _ _ after-used (n .put-next2 .ensures) in
+    let after-previous = framed-put _ _ _ after-next (p .put-previous .ensures) in (
+      framed-put _ _ _ after-previous (g .put-segment .ensures),
+      subst (IsTier (b .args .z)) (sym (h .first-free .ensures)) (b .pre .freeIn),
     )
 
 same-length : tie.Need-same-length
@@ -119,8 +127,8 @@ returns c =
       freeIs = h .first-free .ensures;
       nextIs = x .next-of .ensures;
       usedIs = d .used-tiers .ensures;
-      lastIs = e .end-of-chain .ensures .0;
-      countIs = e .end-of-chain .ensures .1;
+      lastIs = e .end-of-chain .ensures .lastIs;
+      countIs = e .end-of-chain .ensures .lengthIs;
     })
     (l .put-next .ensures) (f .put-first-free .ensures) (u .put-used-tiers .ensures) (n .put-next2 .ensures) (p .put-previous .ensures)
     (g .put-segment .ensures) (o .put-order .ensures)

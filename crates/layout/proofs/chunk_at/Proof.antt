@@ -13,18 +13,18 @@ add-result : tie.Need-add-result
 unfolding freeListAt at partAt
 add-result c =
     let s = c .before .before in
-    omega (arith, tier-room (s .pre .0) (s .args .t) (s .pre .1), c .before .free-list-at .ensures)
+    omega (arith, tier-room (s .pre .framed) (s .args .t) (s .pre .tier), c .before .free-list-at .ensures)
 
 add-result-2 : tie.Need-add-result-2
 unfolding freeListAt at partAt
 add-result-2 c =
     let s = c .before .before .before in
-    omega (arith, tier-room (s .pre .0) (s .args .t) (s .pre .1), c .before .before .free-list-at .ensures)
+    omega (arith, tier-room (s .pre .framed) (s .args .t) (s .pre .tier), c .before .before .free-list-at .ensures)
 
 mul-result : tie.Need-mul-result
 mul-result c =
     let s = c .before .before .before .before in
-    omega (arith, tier-room (s .pre .0) (s .args .t) (s .pre .1), mul-le-mul-right (s .args .z .settings .chunkSize) (s .pre .2))
+    omega (arith, tier-room (s .pre .framed) (s .args .t) (s .pre .tier), mul-le-mul-right (s .args .z .settings .chunkSize) (s .pre .within))
 
 add-result-3 : tie.Need-add-result-3
 unfolding freeListAt at partAt
@@ -32,8 +32,8 @@ add-result-3 c =
     let s = c .before .before .before .before in
     omega (
       arith,
-      tier-room (s .pre .0) (s .args .t) (s .pre .1),
-      mul-le-mul-right (s .args .z .settings .chunkSize) (s .pre .2),
+      tier-room (s .pre .framed) (s .args .t) (s .pre .tier),
+      mul-le-mul-right (s .args .z .settings .chunkSize) (s .pre .within),
       c .before .before .before .free-list-at .ensures,
     )
 

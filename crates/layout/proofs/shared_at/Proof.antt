@@ -14,7 +14,7 @@ add-result : tie.Need-add-result
 unfolding countersAt
 add-result c =
     let s = c .before .before .before in
-    omega (arith, tier-room (s .pre .0) (s .args .t) (s .pre .1), c .counters-at .ensures, s .pre .3)
+    omega (arith, tier-room (s .pre .framed) (s .args .t) (s .pre .tier), c .counters-at .ensures, s .pre .counters)
 
 sub-result : tie.Need-sub-result
 sub-result c = search needs
@@ -22,17 +22,17 @@ sub-result c = search needs
 mul-result : tie.Need-mul-result
 mul-result c =
     let s = c .before .before .before in
-    omega (arith, header-room (s .pre .0) (s .args .t - 1) (omega (arith, c .before .if1 .left, s .pre .1)))
+    omega (arith, header-room (s .pre .framed) (s .args .t - 1) (omega (arith, c .before .if1 .left, s .pre .tier)))
 
 add-result-2 : tie.Need-add-result-2
 add-result-2 c =
     let s = c .before .before .before .before in
-    omega (arith, header-room (s .pre .0) (s .args .t - 1) (omega (arith, c .before .before .if1 .left, s .pre .1)))
+    omega (arith, header-room (s .pre .framed) (s .args .t - 1) (omega (arith, c .before .before .if1 .left, s .pre .tier)))
 
 add-result-3 : tie.Need-add-result-3
 add-result-3 c =
     let s = c .before .before .before .before in
-    omega (arith, header-room (s .pre .0) (s .args .t - 1) (omega (arith, c .before .before .if1 .left, s .pre .1)), s .pre .2)
+    omega (arith, header-room (s .pre .framed) (s .args .t - 1) (omega (arith, c .before .before .if1 .left, s .pre .tier)), s .pre .header)
 
 returns : tie.Need-returns
 returns c =

@@ -1,5 +1,5 @@
 use borrow.Author.Needs.{needs}
-use Rattle.leb128.proofs.Encode.{Encoding, starts, turns, ends}
+use Rattle.leb128.proofs.Encode.{Encoding, encoding-starts, encoding-turns, encoding-ends}
 use native.Mathlib.Omega.{arith}
 use Rattle.leb128.proofs.size.Statement.{statement}
 use Rattle.leb128.proofs.size.Tie as tie
@@ -11,7 +11,7 @@ abbrev μ-loop : tie.MeasureT-loop
 μ-loop n rest₀ k₀ rest k = rest
 
 loop-holds : tie.Need-loop-holds Inv-loop μ-loop
-loop-holds c = starts _ (search needs)
+loop-holds c = encoding-starts _ (search needs)
 
 add-k : tie.Need-add-k Inv-loop μ-loop
 add-k c = search needs
@@ -20,13 +20,13 @@ loop-less : tie.Need-loop-less Inv-loop μ-loop
 loop-less c = search needs
 
 loop-again : tie.Need-loop-again Inv-loop μ-loop
-loop-again c = turns (c .before .loop .inv) (omega arith)
+loop-again c = encoding-turns (c .before .loop .inv) (omega arith)
 
 add-result : tie.Need-add-result Inv-loop μ-loop
 add-result c = search needs
 
 returns : tie.Need-returns Inv-loop μ-loop
-returns c = ends (c .before .loop .inv) (omega arith)
+returns c = encoding-ends (c .before .loop .inv) (omega arith)
 
 pub size-spec : {M : Type 1} → statement M
 size-spec =

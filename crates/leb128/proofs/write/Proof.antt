@@ -1,12 +1,12 @@
 use borrow.Author.Needs.{needs}
-use Rattle.leb128.proofs.Encode.{Writing, write-starts, write-turns, write-ends, before-end}
+use Rattle.leb128.proofs.Encode.{WritingCode, write-starts, write-turns, write-ends, encoding-lt}
 use lib.ListN.{length-set}
 use native.Mathlib.Omega.{arith}
 use Rattle.leb128.proofs.write.Statement.{statement}
 use Rattle.leb128.proofs.write.Tie as tie
 
 abbrev Inv-loop : tie.InvT-loop
-Inv-loop s₀ at n rest₀ next₀ s rest next = Writing s₀ at n s next rest
+Inv-loop s₀ at n rest₀ next₀ s rest next = WritingCode s₀ at n s next rest
 
 abbrev μ-loop : tie.MeasureT-loop
 μ-loop s₀ at n rest₀ next₀ s rest next = rest
@@ -21,10 +21,10 @@ cast-s : tie.Need-cast-s Inv-loop μ-loop
 cast-s c = search needs
 
 slice-write-s : tie.Need-slice-write-s Inv-loop μ-loop
-slice-write-s c = omega (arith, before-end (c .before .loop .inv .done))
+slice-write-s c = omega (arith, encoding-lt (c .before .loop .inv .done))
 
 add-next : tie.Need-add-next Inv-loop μ-loop
-add-next c = omega (arith, before-end (c .before .loop .inv .done))
+add-next c = omega (arith, encoding-lt (c .before .loop .inv .done))
 
 loop-less : tie.Need-loop-less Inv-loop μ-loop
 loop-less c = search needs
@@ -36,10 +36,10 @@ cast-s-2 : tie.Need-cast-s-2 Inv-loop μ-loop
 cast-s-2 c = search needs
 
 slice-write-s-2 : tie.Need-slice-write-s-2 Inv-loop μ-loop
-slice-write-s-2 c = omega (arith, before-end (c .before .loop .inv .done))
+slice-write-s-2 c = omega (arith, encoding-lt (c .before .loop .inv .done))
 
 add-result : tie.Need-add-result Inv-loop μ-loop
-add-result c = omega (arith, before-end (c .before .loop .inv .done))
+add-result c = omega (arith, encoding-lt (c .before .loop .inv .done))
 
 same-length : tie.Need-same-length Inv-loop μ-loop
 same-length c = simp length-set (c .before .loop .inv .long)

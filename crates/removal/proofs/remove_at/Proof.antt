@@ -4,13 +4,13 @@ use Rattle.removal.proofs.Emptying.{removed-at}
 use Rattle.removal.proofs.remove_at.Statement.{statement}
 use Rattle.removal.proofs.remove_at.Tie as tie
 
-clear-marks-requires : tie.Need-clear-marks-requires
-clear-marks-requires c κs = search needs
+put-marks-requires : tie.Need-put-marks-requires
+put-marks-requires c κs = search needs
 
 empty-slot-requires : tie.Need-empty-slot-requires
 empty-slot-requires c κs =
     let s = c .before .before .before .before .before .before in
-    (framed-again (c .before .before .before .clear-marks .kept .1 .0) (s .pre .0), s .pre .1, s .pre .2)
+    (framed-again (c .before .before .before .put-marks .kept .1 .0) (s .pre .0), s .pre .1, s .pre .2)
 
 same-length : tie.Need-same-length
 same-length c = search needs
@@ -18,11 +18,11 @@ same-length c = search needs
 returns : tie.Need-returns
 returns c =
     let p = c .before .before in let empty-slot = p .empty-slot in
-    let p = p .before .before .before .before in let clear-marks = p .clear-marks in
+    let p = p .before .before .before .before in let put-marks = p .put-marks in
     let s = p .before .before .before in
-    removed-at (s .args .z) (s .args .img .now) (s .args .t) (s .args .j) (s .args .c) (s .args .n) (clear-marks .ensures) (empty-slot .ensures)
+    removed-at (s .args .z) (s .args .img .now) (s .args .t) (s .args .j) (s .args .c) (s .args .n) (put-marks .ensures) (empty-slot .ensures)
 
 pub remove-at-spec : {M : Type 1} → statement M
 remove-at-spec =
     tie.close
-    (tie.spec clear-marks-requires empty-slot-requires same-length returns)
+    (tie.spec put-marks-requires empty-slot-requires same-length returns)

@@ -1,6 +1,6 @@
 use native.Mathlib.Omega.{arith}
 use borrow.Author.Needs.{needs}
-use Rattle.removal.proofs.Emptying.{home-distance}
+use Rattle.removal.proofs.Emptying.{start-distance}
 use Rattle.removal.proofs.stays.Statement.{statement}
 use Rattle.removal.proofs.stays.Tie as tie
 
@@ -20,7 +20,7 @@ returns c =
     omega (
       arith,
       p .0,
-      home-distance (s .args .st) (s .args .v) (s .args .h) (c .before .before .before .slot-key .ensures)
+      start-distance (s .args .st) (s .args .v) (s .args .h) (c .before .before .before .slot-key .ensures)
           (c .before .before .start .ensures .0) (c .before .distance .ensures),
     )
 
@@ -34,7 +34,7 @@ returns-2 c =
     omega (
       arith,
       p .1,
-      home-distance (s .args .st) (s .args .v) (s .args .h) (c .before .before .before .before .before .slot-key .ensures)
+      start-distance (s .args .st) (s .args .v) (s .args .h) (c .before .before .before .before .before .slot-key .ensures)
           (c .before .before .before .before .start .ensures .0) (c .before .before .before .distance .ensures),
     )
 
@@ -42,7 +42,7 @@ returns-3 : tie.Need-returns-3
 returns-3 c =
     let s = c .before .before .before .before .before .before in
     let e =
-    home-distance (s .args .st) (s .args .v) (s .args .h) (c .before .before .before .before .before .slot-key .ensures)
+    start-distance (s .args .st) (s .args .v) (s .args .h) (c .before .before .before .before .before .slot-key .ensures)
     (c .before .before .before .before .start .ensures .0) (c .before .before .before .distance .ensures) in
     (omega (arith, e), omega (arith, e))
 

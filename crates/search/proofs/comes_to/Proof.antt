@@ -1,4 +1,4 @@
-use mathlib.Core.Path.{refl}
+use mathlib.Core.Path.{refl, sym, _∙_}
 use Prim.Native.Nat.{_-_}
 use Rattle.layout.proofs.Bounds.{framed-bounded}
 use Rattle.search.proofs.Ending.{Reaching, reaching-starts, reaching-ends, reaching-out, reaching-here, reaching-tier, reaching-wrong, reaching-turns}
@@ -13,7 +13,7 @@ abbrev μ-loop : tie.MeasureT-loop
 μ-loop z img key lookup s t most u₀ k₀ u k = most - k
 
 tier-count-requires : tie.Need-tier-count-requires Inv-loop μ-loop
-tier-count-requires c κs = framed-bounded (c .before .before .pre .0)
+tier-count-requires c κs = framed-bounded (c .before .before .pre .tier .chains .framed)
 
 add-u : tie.Need-add-u Inv-loop μ-loop
 add-u c = search needs
@@ -22,13 +22,14 @@ loop-holds : tie.Need-loop-holds Inv-loop μ-loop
 loop-holds c =
     let start = c .before .before .before in
     reaching-starts (start .args .z) (start .args .img .now) (start .args .key .now) (start .args .t) (c .tier-count .result) _
-    (start .args .s) (c .tier-count .ensures) refl (start .pre .4) (start .pre .2) (start .pre .1)
+    (start .args .s) (c .tier-count .ensures) refl (start .pre .segmentIs) (start .pre .tier .segmentIn)
+    (start .pre .tier .chains .chainTiers)
 
 returns : tie.Need-returns Inv-loop μ-loop
 returns c =
     let start = c .before .before .before .before .before .before in
     reaching-here (start .args .z) (start .args .img .now) (start .args .key .now) (start .args .t) (c .before .before .loop .inv)
-    (c .before .loop-test .taken) (start .pre .3) (start .pre .6) (c .if1 .taken)
+    (c .before .loop-test .taken) (start .pre .tier .tierIn) (start .pre .holds) (c .if1 .taken)
 
 returns-2 : tie.Need-returns-2 Inv-loop μ-loop
 returns-2 c =
@@ -39,35 +40,32 @@ returns-2 c =
 seek-requires : tie.Need-seek-requires Inv-loop μ-loop
 seek-requires c κs =
     let p = c .before .before .before in let the-loop = p .loop in
-    let start = p .before .before .before .before in (
-      start .pre .0,
-      reaching-tier (start .args .z) (start .args .img .now) (start .args .key .now) (start .args .t) (the-loop .inv)
-          (c .before .before .loop-test .taken) (c .if2 .left),
-      start .pre .5,
-    )
+    let start = p .before .before .before .before in
+    record {
+      tier = record {
+        framed = start .pre .tier .chains .framed;
+        tierIn = reaching-tier (start .args .z) (start .args .img .now) (start .args .key .now) (start .args .t) (the-loop .inv)
+            (c .before .before .loop-test .taken) (c .if2 .left);
+      };
+      lookupIs = start .pre .lookupIs;
+    }
 
-slot-requires : tie.Need-slot-requires Inv-loop μ-loop
-slot-requires c κs =
-    let p = c .before .before .before in let loop-test = p .loop-test in
-    let p = p .before in let the-loop = p .loop in
-    let start = p .before .before .before .before in (
-      start .pre .0,
-      reaching-tier (start .args .z) (start .args .img .now) (start .args .key .now) (start .args .t) (the-loop .inv)
-          (loop-test .taken) (c .before .if2 .left),
-      c .seek .ensures .1,
-    )
+enum-told : tie.Need-enum-told Inv-loop μ-loop
+enum-told c = search needs
+
+enum-told-2 : tie.Need-enum-told-2 Inv-loop μ-loop
+enum-told-2 c = search needs
 
 returns-3 : tie.Need-returns-3 Inv-loop μ-loop
 returns-3 c =
-    let p = c .before in let slot = p .slot in
-    let p = p .before in let seek = p .seek in
+    let p = c .before .before in let seek = p .seek in
     let p = p .before in let if2 = p .if2 in
     let p = p .before in let if1 = p .if1 in
     let p = p .before in let loop-test = p .loop-test in
     let p = p .before in let the-loop = p .loop in
     let start = p .before .before .before .before in
     reaching-wrong (start .args .z) (start .args .img .now) (start .args .key .now) (start .args .t) (the-loop .inv) (loop-test .taken)
-    (if2 .left) (seek .result) (slot .result) (seek .ensures .0) (slot .ensures) (c .if3 .taken) (if1 .left) _
+    (if2 .left) (c .enum-told2 .given .0 .0) (sym (seek .ensures) ∙ c .enum-told2 .given .1) (if1 .left) _
 
 next-of-requires : tie.Need-next-of-requires Inv-loop μ-loop
 next-of-requires c κs =
@@ -75,7 +73,7 @@ next-of-requires c κs =
     let p = p .before .before in let loop-test = p .loop-test in
     let p = p .before in let the-loop = p .loop in
     let start = p .before .before .before .before in (
-      start .pre .0,
+      start .pre .tier .chains .framed,
       reaching-tier (start .args .z) (start .args .img .now) (start .args .key .now) (start .args .t) (the-loop .inv)
           (loop-test .taken) (if2 .left),
     )
@@ -88,15 +86,14 @@ loop-less c = search needs
 
 loop-again : tie.Need-loop-again Inv-loop μ-loop
 loop-again c =
-    let p = c .before .before in let slot = p .slot in
-    let p = p .before in let seek = p .seek in
+    let p = c .before in let enum-told = p .enum-told in
+    let p = p .before .before in let seek = p .seek in
     let p = p .before in let if2 = p .if2 in
     let p = p .before .before in let loop-test = p .loop-test in
     let p = p .before in let the-loop = p .loop in
     let start = p .before .before .before .before in
     reaching-turns (start .args .z) (start .args .img .now) (start .args .key .now) (start .args .t) (the-loop .inv) (loop-test .taken)
-    (if2 .left) (seek .result) (slot .result) (seek .ensures .0) (slot .ensures) (c .before .if3 .left) (c .next-of .result)
-    (c .next-of .ensures)
+    (if2 .left) (enum-told .given .0 .0) (sym (seek .ensures) ∙ enum-told .given .1) (c .next-of .result) (c .next-of .ensures)
 
 returns-4 : tie.Need-returns-4 Inv-loop μ-loop
 returns-4 c =
@@ -116,7 +113,8 @@ comes-to-spec =
     returns
     returns-2
     seek-requires
-    slot-requires
+    enum-told
+    enum-told-2
     returns-3
     next-of-requires
     add-k

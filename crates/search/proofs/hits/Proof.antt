@@ -12,7 +12,7 @@ returns : tie.Need-returns
 returns c =
     let start = c .before .before .before .before .before in
     sym (hits-differs (start .args .z) (start .args .img .now) (start .args .key .now) (start .args .t) (start .args .v) (start .args .lookup)
-    (start .pre .2) (λ q. c .if1 .taken (c .before .slot-key .ensures ∙ q)))
+    (start .pre .lookupIs) (λ q. c .if1 .taken (c .before .slot-key .ensures ∙ q)))
 
 slot-chunk-requires : tie.Need-slot-chunk-requires
 slot-chunk-requires c κs = search needs
@@ -37,7 +37,7 @@ returns-2 c =
     let p = p .before in let slot-key = p .slot-key in
     let start = p .before .before .before .before in
     c .same-key .ensures ∙ hits-broken (start .args .z) (start .args .img .now) (start .args .key .now) (start .args .t) (start .args .v)
-    (start .args .lookup) (slot-chunk .result) (start .pre .2) (sym (slot-key .ensures) ∙ if1 .left) (slot-chunk .ensures)
+    (start .args .lookup) (slot-chunk .result) (start .pre .lookupIs) (sym (slot-key .ensures) ∙ if1 .left) (slot-chunk .ensures)
     (sym (stored .ensures) ∙ c .before .enum-told .given .1)
 
 same-key-requires-2 : tie.Need-same-key-requires-2
@@ -46,7 +46,7 @@ same-key-requires-2 c κs =
     let start = p .before .before .before .before .before .before .before in
     key-in-image (start .args .z) (start .args .img .now) (start .args .t) _
     (whole-sound (start .args .z) (start .args .img .now) (start .args .t) _ _ (sym (stored .ensures) ∙ c .before .e .given .1))
-    (start .pre .0) (start .pre .1)
+    (start .pre .tier .framed) (start .pre .tier .tierIn)
 
 returns-3 : tie.Need-returns-3
 returns-3 c =
@@ -56,7 +56,7 @@ returns-3 c =
     let p = p .before in let slot-key = p .slot-key in
     let start = p .before .before .before .before in
     c .same-key2 .ensures ∙ hits-whole (start .args .z) (start .args .img .now) (start .args .key .now) (start .args .t) (start .args .v)
-    (start .args .lookup) (slot-chunk .result) (start .pre .2) (sym (slot-key .ensures) ∙ if1 .left) (slot-chunk .ensures) _
+    (start .args .lookup) (slot-chunk .result) (start .pre .lookupIs) (sym (slot-key .ensures) ∙ if1 .left) (slot-chunk .ensures) _
     (sym (stored .ensures) ∙ c .before .before .e .given .1)
 
 pub hits-spec : {M : Type 1} → statement M

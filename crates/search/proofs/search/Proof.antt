@@ -1,5 +1,5 @@
 use native.Mathlib.Omega.{arith}
-use mathlib.Core.Path.{refl, ap, _∙_}
+use mathlib.Core.Path.{refl, sym, ap, _∙_}
 use Rattle.layout.proofs.Bounds.{framed-bounded}
 use Rattle.entries.specs.Keys.{segmentOfHash, segmentOf, lookupOfHash, lookupKey}
 use borrow.Author.Needs.{needs}
@@ -23,7 +23,7 @@ lookup-of-hash-requires c κs = search needs
 tier-count-requires : tie.Need-tier-count-requires Inv-loop μ-loop
 tier-count-requires c κs =
     let start = c .before .before .before .before in
-    framed-bounded (start .pre .0)
+    framed-bounded (start .pre .framed)
 
 segment-of-hash-requires : tie.Need-segment-of-hash-requires Inv-loop μ-loop
 segment-of-hash-requires c κs = search needs
@@ -39,7 +39,7 @@ loop-holds c =
     let start = p .before .before .before in
     search-starts (start .args .z) (start .args .img .now) (start .args .key .now) (tier-count .result) _ (c .segment-of-hash .result)
     (tier-count .ensures) refl (c .segment-of-hash .ensures .0 ∙ ap (segmentOfHash (start .args .z .settings)) (xxh64 .ensures))
-    (c .segment-of-hash .ensures .1) (start .pre .1)
+    (c .segment-of-hash .ensures .1) (start .pre .chainTiers)
 
 returns : tie.Need-returns Inv-loop μ-loop
 returns c =
@@ -51,39 +51,42 @@ unfolding lookupKey
 seek-requires c κs =
     let p = c .before .before .before .before .before in let lookup-of-hash = p .lookup-of-hash in
     let p = p .before in let xxh64 = p .xxh64 in
-    let start = p .before .before .before in (
-      start .pre .0,
-      searching-tier (start .args .z) (start .args .img .now) (start .args .key .now) (c .before .before .loop .inv)
-          (omega arith) (c .if1 .left),
-      lookup-of-hash .ensures .0 ∙ ap (lookupOfHash (start .args .z .settings)) (xxh64 .ensures),
-    )
+    let start = p .before .before .before in
+    record {
+      tier = record {
+        framed = start .pre .framed;
+        tierIn = searching-tier (start .args .z) (start .args .img .now) (start .args .key .now) (c .before .before .loop .inv)
+            (omega arith) (c .if1 .left);
+      };
+      lookupIs = lookup-of-hash .ensures .0 ∙ ap (lookupOfHash (start .args .z .settings)) (xxh64 .ensures);
+    }
 
-slot-requires : tie.Need-slot-requires Inv-loop μ-loop
-slot-requires c κs =
-    let p = c .before .before .before in let the-loop = p .loop in
-    let start = p .before .before .before .before .before .before .before in (
-      start .pre .0,
-      searching-tier (start .args .z) (start .args .img .now) (start .args .key .now) (the-loop .inv) (omega arith)
-          (c .before .if1 .left),
-      c .seek .ensures .1,
-    )
+enum-known-sought : tie.Need-enum-known-sought Inv-loop μ-loop
+enum-known-sought c = search needs
 
 returns-2 : tie.Need-returns-2 Inv-loop μ-loop
 returns-2 c =
-    let p = c .before in let slot = p .slot in
-    let p = p .before in let seek = p .seek in
+    let p = c .before in let sought = p .sought in
+    let p = p .before .before in let seek = p .seek in
     let p = p .before in let if1 = p .if1 in
-    let p = p .before .before in let the-loop = p .loop in
+    let p = p .before in let loop-test = p .loop-test in
+    let p = p .before in let the-loop = p .loop in
     let start = p .before .before .before .before .before .before .before in
-    searching-found (start .args .z) (start .args .img .now) (start .args .key .now) (the-loop .inv) (omega arith) (if1 .left)
-    (seek .result) (slot .result) (seek .ensures .0) (slot .ensures) (c .if2 .taken)
+    searching-found (start .args .z) (start .args .img .now) (start .args .key .now) (the-loop .inv) (loop-test .taken) (if1 .left)
+    (sought .given .0 .0) (sym (seek .ensures) ∙ sought .given .1)
+
+enum-known-sought-2 : tie.Need-enum-known-sought-2 Inv-loop μ-loop
+enum-known-sought-2 c = search needs
 
 next-of-requires : tie.Need-next-of-requires Inv-loop μ-loop
 next-of-requires c κs =
-    let p = c .before .before .before in let if1 = p .if1 in
-    let p = p .before .before in let the-loop = p .loop in
-    let start = p .before .before .before .before .before .before .before in
-    (start .pre .0, searching-tier (start .args .z) (start .args .img .now) (start .args .key .now) (the-loop .inv) (omega arith) (if1 .left))
+    let p = c .before .before .before .before in let if1 = p .if1 in
+    let p = p .before in let loop-test = p .loop-test in
+    let p = p .before in let the-loop = p .loop in
+    let start = p .before .before .before .before .before .before .before in (
+      start .pre .framed,
+      searching-tier (start .args .z) (start .args .img .now) (start .args .key .now) (the-loop .inv) (loop-test .taken) (if1 .left),
+    )
 
 add-k : tie.Need-add-k Inv-loop μ-loop
 add-k c = search needs
@@ -93,14 +96,14 @@ loop-less c = search needs
 
 loop-again : tie.Need-loop-again Inv-loop μ-loop
 loop-again c =
-    let p = c .before .before in let slot = p .slot in
-    let p = p .before in let seek = p .seek in
+    let p = c .before .before in let sought = p .sought2 in
+    let p = p .before .before in let seek = p .seek in
     let p = p .before in let if1 = p .if1 in
     let p = p .before in let loop-test = p .loop-test in
     let p = p .before in let the-loop = p .loop in
     let start = p .before .before .before .before .before .before .before in
     searching-turns (start .args .z) (start .args .img .now) (start .args .key .now) (the-loop .inv) (loop-test .taken) (if1 .left)
-    (seek .result) (slot .result) (seek .ensures .0) (slot .ensures) (c .before .if2 .left) (c .next-of .result) (c .next-of .ensures)
+    (sought .given .0 .0) (sym (seek .ensures) ∙ sought .given .1) (c .next-of .result) (c .next-of .ensures)
 
 returns-3 : tie.Need-returns-3 Inv-loop μ-loop
 returns-3 c =
@@ -121,8 +124,9 @@ search-spec =
     loop-holds
     returns
     seek-requires
-    slot-requires
+    enum-known-sought
     returns-2
+    enum-known-sought-2
     next-of-requires
     add-k
     loop-less

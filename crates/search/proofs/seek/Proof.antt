@@ -1,9 +1,8 @@
 use Prim.Native.Nat.{ℕ}
-use native.Mathlib.Omega.{arith}
 use mathlib.Core.Path.{refl, sym, _∙_, ap}
 use Rattle.probe.specs.Ring.{next}
 use borrow.Author.Needs.{needs}
-use Rattle.search.proofs.Seeking.{Seeking, seek-starts, seek-empty, seek-found, seek-turns, seek-out}
+use Rattle.search.proofs.Seeking.{Seeking, seek-starts, seek-turns, seek-ends-empty, seek-ends-holds, seek-ends-out}
 use mathlib.Core.Path.{_≡_}
 use Rattle.search.proofs.seek.Statement.{statement}
 use Rattle.search.proofs.seek.Tie as tie
@@ -21,7 +20,7 @@ loop-holds : tie.Need-loop-holds Inv-loop μ-loop
 loop-holds c =
     let start2 = c .before .before .before .before in (
       seek-starts (start2 .args .z) (start2 .args .img .now) (start2 .args .key .now) (start2 .args .t) (c .start .result)
-          (start2 .args .lookup) (start2 .pre .2) (c .start .ensures .0) (c .start .ensures .1),
+          (start2 .args .lookup) (start2 .pre .lookupIs) (c .start .ensures .0) (c .start .ensures .1),
       refl,
     )
 
@@ -32,24 +31,21 @@ returns : tie.Need-returns Inv-loop μ-loop
 returns c =
     let p = c .before in let slot = p .slot in
     let p = p .before .before in let the-loop = p .loop in
-    let start = p .before .before .before .before .before in (
-      seek-empty (start .args .z) (start .args .img .now) (start .args .key .now) (start .args .t) (the-loop .inv .0) (slot .result)
-          (slot .ensures) (c .if1 .taken),
-      the-loop .inv .0 .lt,
-    )
+    let start = p .before .before .before .before .before in
+    seek-ends-empty (start .args .z) (start .args .img .now) (start .args .key .now) (start .args .t) (the-loop .inv .0) (slot .result)
+    (slot .ensures) (c .if1 .taken)
 
 hits-requires : tie.Need-hits-requires Inv-loop μ-loop
 hits-requires c κs = search needs
 
 returns-2 : tie.Need-returns-2 Inv-loop μ-loop
 returns-2 c =
-    let p = c .before .before .before in let slot = p .slot in
+    let p = c .before .before in let if1 = p .if1 in
+    let p = p .before in let slot = p .slot in
     let p = p .before .before in let the-loop = p .loop in
-    let start = p .before .before .before .before .before in (
-      seek-found (start .args .z) (start .args .img .now) (start .args .key .now) (start .args .t) (the-loop .inv .0) (slot .result)
-          (slot .ensures) (sym (c .before .hits .ensures) ∙ c .if2 .taken),
-      the-loop .inv .0 .lt,
-    )
+    let start = p .before .before .before .before .before in
+    seek-ends-holds (start .args .z) (start .args .img .now) (start .args .key .now) (start .args .t) (the-loop .inv .0) (slot .result)
+    (slot .ensures) (if1 .left) (sym (c .before .hits .ensures) ∙ c .if2 .taken)
 
 step-requires : tie.Need-step-requires Inv-loop μ-loop
 step-requires c κs = search needs
@@ -67,9 +63,9 @@ loop-again c =
     let p = p .before in let loop-test = p .loop-test in
     let p = p .before in let the-loop = p .loop in
     let start = p .before .before .before .before .before in (
-      seek-turns (start .args .z) (start .args .img .now) (start .args .key .now) (start .args .t) (the-loop .inv .0) (slot2 .result)
-          (slot2 .ensures) (if1 .left) (sym (c .before .before .hits .ensures) ∙ c .before .if2 .left) (loop-test .taken) (c .step .result .slot)
-          (c .step .ensures .0 ∙ ap (λ (n : ℕ). next n (the-loop .cursor .slot)) (the-loop .inv .1)),
+      seek-turns (start .args .z) (start .args .img .now) (start .args .key .now) (start .args .t) (the-loop .inv .0) (start .pre .tier .framed)
+          (slot2 .result) (slot2 .ensures) (if1 .left) (sym (c .before .before .hits .ensures) ∙ c .before .if2 .left) (loop-test .taken)
+          (c .step .result .slot) (c .step .ensures .0 ∙ ap (λ (n : ℕ). next n (the-loop .cursor .slot)) (the-loop .inv .1)),
       c .step .ensures .1 ∙ the-loop .inv .1,
     )
 
@@ -77,7 +73,7 @@ returns-3 : tie.Need-returns-3 Inv-loop μ-loop
 returns-3 c =
     let p = c .before in let the-loop = p .loop in
     let start = p .before .before .before .before .before in
-    (seek-out (start .args .z) (start .args .img .now) (start .args .key .now) (start .args .t) (the-loop .inv .0) (omega arith), the-loop .inv .0 .lt)
+    seek-ends-out (start .args .z) (start .args .img .now) (start .args .key .now) (start .args .t) (the-loop .inv .0) (c .loop-test .left)
 
 pub seek-spec : {M : Type 1} → statement M
 seek-spec =

@@ -1,5 +1,6 @@
+use mathlib.Core.Path.{refl}
 use Rattle.words.specs.Bits.{bit}
-use Rattle.words.proofs.Bits.{and-one}
+use Rattle.words.proofs.Bits.{and-ones}
 use borrow.Author.Needs.{needs}
 use Rattle.words.proofs.bit.Statement.{statement}
 use Rattle.words.proofs.bit.Tie as tie
@@ -18,7 +19,7 @@ shr-result c = search needs
 
 returns : tie.Need-returns
 unfolding bit
-returns c = and-one _
+returns c = and-ones _ 1 1 refl
 
 pub bit-spec : {M : Type 1} → statement M
 bit-spec = tie.close (tie.spec add-result shared-slice-read-result cast-result shr-result returns)

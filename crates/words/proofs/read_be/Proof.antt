@@ -1,6 +1,6 @@
 use borrow.Author.Needs.{needs}
 use Prim.Native.Nat.{_-_}
-use Rattle.words.proofs.Numbers.{ReadingBe, be-starts, be-turns, be-ends, room}
+use Rattle.words.proofs.Numbers.{ReadingBe, be-starts, be-turns, be-ends, seven-bytes-lt}
 use native.Mathlib.Omega.{arith}
 use Rattle.words.proofs.read_be.Statement.{statement}
 use Rattle.words.proofs.read_be.Tie as tie
@@ -15,7 +15,7 @@ loop-holds : tie.Need-loop-holds Inv-loop μ-loop
 loop-holds c = be-starts _ _ _
 
 mul-sum : tie.Need-mul-sum Inv-loop μ-loop
-mul-sum c = omega (arith, room (c .before .loop .inv .fits) (omega arith))
+mul-sum c = omega (arith, seven-bytes-lt (c .before .loop .inv .fits) (omega arith))
 
 add-wide : tie.Need-add-wide Inv-loop μ-loop
 add-wide c = search needs
@@ -29,7 +29,7 @@ wide-requires c κs = search needs
 add-sum : tie.Need-add-sum Inv-loop μ-loop
 add-sum c =
     let p = c .before .before .before in let the-loop = p .loop in
-    omega (arith, room (the-loop .inv .fits) (omega arith))
+    omega (arith, seven-bytes-lt (the-loop .inv .fits) (omega arith))
 
 add-k : tie.Need-add-k Inv-loop μ-loop
 add-k c = search needs

@@ -1,5 +1,5 @@
 use borrow.Author.Needs.{needs}
-use Rattle.words.proofs.Numbers.{ReadingLe, le-starts, le-turns, le-ends, room}
+use Rattle.words.proofs.Numbers.{ReadingLe, le-starts, le-turns, le-ends, seven-bytes-lt}
 use native.Mathlib.Omega.{arith}
 use Rattle.words.proofs.read_le.Statement.{statement}
 use Rattle.words.proofs.read_le.Tie as tie
@@ -17,7 +17,7 @@ sub-k : tie.Need-sub-k Inv-loop μ-loop
 sub-k c = search needs
 
 mul-sum : tie.Need-mul-sum Inv-loop μ-loop
-mul-sum c = omega (arith, room (c .before .loop .inv .fits) (omega arith))
+mul-sum c = omega (arith, seven-bytes-lt (c .before .loop .inv .fits) (omega arith))
 
 add-wide : tie.Need-add-wide Inv-loop μ-loop
 add-wide c = search needs
@@ -31,7 +31,7 @@ wide-requires c κs = search needs
 add-sum : tie.Need-add-sum Inv-loop μ-loop
 add-sum c =
     let p = c .before .before .before in let the-loop = p .loop in
-    omega (arith, room (the-loop .inv .fits) (omega arith))
+    omega (arith, seven-bytes-lt (the-loop .inv .fits) (omega arith))
 
 loop-less : tie.Need-loop-less Inv-loop μ-loop
 loop-less c = search needs

@@ -1,18 +1,18 @@
 use borrow.Author.Needs.{needs}
 use Prim.Native.Nat.{_-_}
-use Rattle.words.proofs.Numbers.{Writing, write-starts, write-turns, write-ends}
+use Rattle.words.proofs.Numbers.{WritingLe, putLe-starts, putLe-turns, putLe-ends}
 use native.Mathlib.Omega.{arith}
 use Rattle.words.proofs.write_le.Statement.{statement}
 use Rattle.words.proofs.write_le.Tie as tie
 
 abbrev Inv-loop : tie.InvT-loop
-Inv-loop s₀ at n v rest₀ k₀ s rest k = Writing s₀ at n v s rest k
+Inv-loop s₀ at n v rest₀ k₀ s rest k = WritingLe s₀ at n v s rest k
 
 abbrev μ-loop : tie.MeasureT-loop
 μ-loop s₀ at n v rest₀ k₀ s rest k = n - k
 
 loop-holds : tie.Need-loop-holds Inv-loop μ-loop
-loop-holds c = write-starts _ _ _ _
+loop-holds c = putLe-starts _ _ _ _
 
 cast-s : tie.Need-cast-s Inv-loop μ-loop
 cast-s c = search needs
@@ -30,13 +30,13 @@ loop-less : tie.Need-loop-less Inv-loop μ-loop
 loop-less c = search needs
 
 loop-again : tie.Need-loop-again Inv-loop μ-loop
-loop-again c = write-turns (c .before .loop .inv) (omega arith)
+loop-again c = putLe-turns (c .before .loop .inv) (omega arith)
 
 same-length : tie.Need-same-length Inv-loop μ-loop
 same-length c = search needs
 
 returns : tie.Need-returns Inv-loop μ-loop
-returns c = write-ends (c .before .loop .inv) (omega arith)
+returns c = putLe-ends (c .before .loop .inv) (omega arith)
 
 pub write-le-spec : {M : Type 1} → statement M
 write-le-spec =

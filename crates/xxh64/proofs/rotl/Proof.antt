@@ -1,5 +1,5 @@
 use borrow.Author.Needs.{needs}
-use Rattle.xxh64.proofs.Laws.{rotation}
+use Rattle.xxh64.proofs.Laws.{rotl64-or}
 use Rattle.xxh64.proofs.rotl.Statement.{statement}
 use Rattle.xxh64.proofs.rotl.Tie as tie
 
@@ -16,7 +16,7 @@ shr-result : tie.Need-shr-result
 shr-result c = search needs
 
 returns : tie.Need-returns
-returns c = rotation (c .args .x) (c .args .n) (search needs) (search needs)
+returns c = rotl64-or (c .args .x) (c .args .n) (search needs) (search needs)
 
 pub rotl-spec : {M : Type 1} → statement M
 rotl-spec = tie.close (tie.spec shl-result sub-result cast-result shr-result returns)

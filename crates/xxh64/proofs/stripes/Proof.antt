@@ -4,7 +4,7 @@ use native.Mathlib.Omega.{arith}
 use lib.ListN.{length}
 use borrow.Author.Needs.{needs}
 use Rattle.xxh64.specs.Hash.{lanesOf}
-use Rattle.xxh64.proofs.Laws.{lanes-more}
+use Rattle.xxh64.proofs.Laws.{lanesOf-more}
 use Rattle.xxh64.proofs.stripes.Statement.{statement}
 use Rattle.xxh64.proofs.stripes.Tie as tie
 
@@ -39,7 +39,7 @@ loop-again c =
     let st = the-loop .st in
     let e : c .stripe .result .at / 32 ≡ st .at / 32 + 1 = omega arith in
     let f : st .at / 32 * 32 ≡ st .at = omega arith in
-    (omega arith, omega arith, cc (lanes-more (start .args .s .now) (st .at / 32)), cc)
+    (omega arith, omega arith, cc (lanesOf-more (start .args .s .now) (st .at / 32)), cc)
 
 returns : tie.Need-returns Inv-loop μ-loop
 returns c =

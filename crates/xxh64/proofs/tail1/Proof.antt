@@ -3,7 +3,7 @@ use Prim.Native.Nat.{_≤_, _-_}
 use native.Mathlib.Omega.{arith}
 use borrow.Author.Needs.{needs}
 use Rattle.xxh64.specs.Hash.{tailOf, mix1Of}
-use Rattle.xxh64.proofs.Laws.{bytes-more}
+use Rattle.xxh64.proofs.Laws.{tailOf-byte}
 use Rattle.xxh64.proofs.tail1.Statement.{statement}
 use Rattle.xxh64.proofs.tail1.Tie as tie
 
@@ -39,7 +39,7 @@ loop-again : tie.Need-loop-again Inv-loop μ-loop
 loop-again c =
     let p = c .before .before .before .before in let the-loop = p .loop in
     let start = p .before .before in
-    let a = start .args in let k = the-loop .k in (omega arith, cc (bytes-more mix1Of (a .s .now) (a .base) (a .acc0) k))
+    let a = start .args in let k = the-loop .k in (omega arith, cc (tailOf-byte mix1Of (a .s .now) (a .base) (a .acc0) k))
 
 returns : tie.Need-returns Inv-loop μ-loop
 returns c =

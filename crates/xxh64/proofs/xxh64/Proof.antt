@@ -1,5 +1,5 @@
 use borrow.Author.Needs.{needs}
-use Rattle.xxh64.proofs.Laws.{short, long}
+use Rattle.xxh64.proofs.Laws.{xxh64-short, xxh64-long}
 use Rattle.xxh64.proofs.xxh64.Statement.{statement}
 use Rattle.xxh64.proofs.xxh64.Tie as tie
 
@@ -24,12 +24,12 @@ finish-requires-2 c κs = search needs
 returns : tie.Need-returns
 returns c =
     let start = c .before .before .before .before in
-    cc (short (start .args .s .now) (search needs))
+    cc (xxh64-short (start .args .s .now) (search needs))
 
 returns-2 : tie.Need-returns-2
 returns-2 c =
     let start = c .before .before .before .before .before .before in
-    cc (long (start .args .s .now) (search needs))
+    cc (xxh64-long (start .args .s .now) (search needs))
 
 pub xxh64-spec : {M : Type 1} → statement M
 xxh64-spec =

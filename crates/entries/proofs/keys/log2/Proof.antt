@@ -1,4 +1,4 @@
-use Rattle.entries.proofs.Powers.{log2-is}
+use Rattle.entries.proofs.Powers.{leadingZeros-power}
 use native.Mathlib.Omega.{arith}
 use Rattle.entries.proofs.keys.log2.Statement.{statement}
 use Rattle.entries.proofs.keys.log2.Tie as tie
@@ -6,13 +6,13 @@ use Rattle.entries.proofs.keys.log2.Reads as reads
 use Rattle.entries.proofs.keys.log2.Lts as lts
 
 cast-result : tie.Need-cast-result
-cast-result c = omega (arith, log2-is (c .args .x) (c .pre) .0)
+cast-result c = omega (arith, leadingZeros-power (c .args .x) (c .pre) .0)
 
 sub-result : tie.Need-sub-result
-sub-result c = omega (arith, log2-is (c .args .x) (c .pre) .0)
+sub-result c = omega (arith, leadingZeros-power (c .args .x) (c .pre) .0)
 
 returns : tie.Need-returns
-returns c = (log2-is (c .args .x) (c .pre) .1, omega arith)
+returns c = (leadingZeros-power (c .args .x) (c .pre) .1, omega arith)
 
 pub log2-spec : {M : Type 1} → statement M
 log2-spec = tie.close (tie.spec cast-result sub-result returns)

@@ -1,4 +1,4 @@
-use Rattle.entries.proofs.Hashes.{lookup-ones, lookup-part, lookup-is}
+use Rattle.entries.proofs.Hashes.{lookup-ones, lookup-part, lookup-bounds-of}
 use mathlib.Core.Path.{ap, sym, _∙_}
 use Prim.Native.Nat.{ℕ, _/_, _%_, _^_}
 use borrow.Author.Needs.{needs}
@@ -26,7 +26,7 @@ returns : tie.Need-returns
 returns c =
     let p = c .before .before .before in let log2 = p .log2 in
     let start = p .before in
-    lookup-is (start .pre) (start .args .h) (c .ones .result)
+    lookup-bounds-of (start .pre) (start .args .h) (c .ones .result)
     (c .ones .ensures ∙ sym (lookup-ones (start .args .st) (start .args .h)
     (sym
     (c .before .before .low-bits .ensures .0 ∙ ap (λ (n : ℕ). start .args .h / n % 2 ^ start .args .st .keyBits) (sym (log2 .ensures .0))) ∙
@@ -37,7 +37,7 @@ returns-2 c =
     let p = c .before in let low-bits = p .low-bits in
     let p = p .before in let log2 = p .log2 in
     let start = p .before in
-    lookup-is (start .pre) (start .args .h) (low-bits .result)
+    lookup-bounds-of (start .pre) (start .args .h) (low-bits .result)
     (low-bits .ensures .0 ∙ ap (λ (n : ℕ). start .args .h / n % 2 ^ start .args .st .keyBits) (sym (log2 .ensures .0)) ∙ sym
     (lookup-part (start .args .st) (start .args .h)
     (λ e. c .if1 .left

@@ -1,4 +1,4 @@
-use Rattle.entries.proofs.Slots.{masked}
+use Rattle.words.proofs.Bits.{and-ones}
 use borrow.Author.Needs.{needs}
 use Rattle.entries.proofs.keys.low_bits.Statement.{statement}
 use Rattle.entries.proofs.keys.low_bits.Tie as tie
@@ -9,7 +9,7 @@ ones-requires c κs = search needs
 returns : tie.Need-returns
 returns c =
     let start = c .before in
-    masked (start .args .x) (start .args .n) (c .ones .result) (c .ones .ensures)
+    and-ones (start .args .x) (start .args .n) (c .ones .result) (c .ones .ensures)
 
 pub low-bits-spec : {M : Type 1} → statement M
 low-bits-spec = tie.close (tie.spec ones-requires returns)

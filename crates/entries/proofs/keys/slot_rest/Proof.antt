@@ -1,4 +1,4 @@
-use Rattle.entries.proofs.Slots.{shifted-out}
+use Rattle.words.proofs.Bits.{shr-out}
 use mathlib.Core.Path.{sym}
 use Prim.Native.Nat.{_+_}
 use native.Mathlib.Omega.{arith}
@@ -18,7 +18,7 @@ returns c = search needs
 returns-2 : tie.Need-returns-2
 returns-2 c =
     let start = c .before .before in
-    sym (shifted-out (start .args .v) (start .args .st .keyBits + start .args .st .chunkBits) (search needs) (omega arith))
+    sym (shr-out (start .args .v) (start .args .st .keyBits + start .args .st .chunkBits) (search needs) (omega arith))
 
 pub slot-rest-spec : {M : Type 1} → statement M
 slot-rest-spec = tie.close (tie.spec add-n shr-result returns returns-2)

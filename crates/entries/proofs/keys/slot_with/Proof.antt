@@ -1,5 +1,5 @@
 use Rattle.settings.proofs.Laws.{slotSize-le}
-use Rattle.entries.proofs.Slots.{joined}
+use Rattle.words.proofs.Bits.{or-shl}
 use native.Mathlib.Omega.{arith}
 use borrow.Author.Needs.{needs}
 use Rattle.entries.proofs.keys.slot_with.Statement.{statement}
@@ -10,8 +10,8 @@ shl-result c = search needs
 
 returns : tie.Need-returns
 returns c =
-    joined (c .args .st .keyBits) (c .args .st .chunkBits) (c .args .lookup) (c .args .chunk) (search needs) (search needs)
-    (omega (arith, slotSize-le (c .args .st) (c .pre .0 .slotSize) .1))
+    or-shl (c .args .st .keyBits) (c .args .st .chunkBits) (c .args .lookup) (c .args .chunk) (search needs) (search needs)
+    (omega (arith, slotSize-le (c .args .st) (c .pre .valid .slotSize) .1))
 
 pub slot-with-spec : {M : Type 1} → statement M
 slot-with-spec = tie.close (tie.spec shl-result returns)

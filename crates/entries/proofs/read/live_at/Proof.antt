@@ -20,7 +20,7 @@ chunks-for-requires c κs =
     let p = c .before in let stored = p .stored in
     let start = p .before .before .before in
     let small = entry-small (start .args .z) (start .args .img .now) (start .args .t) (c .before .before .chunk-of .result) in
-    (start .pre .0 .valid, rw (c .entry-of .ensures, stored .ensures) (small .0), rw (c .entry-of .ensures, stored .ensures) (small .1))
+    record { valid = start .pre .tier .framed .valid; lengths = rw (c .entry-of .ensures, stored .ensures) small }
 
 returns : tie.Need-returns
 returns c =

@@ -2,7 +2,7 @@ use mathlib.Core.Path.{refl, sym, _∙_}
 use native.Mathlib.Omega.{arith}
 use lib.Seq.{length-take-le}
 use Rattle.layout.proofs.Chunks.{chunks-inside}
-use Rattle.entries.proofs.Whole.{read-at, stored-past, key-refused, value-refused, both-read, key-room}
+use Rattle.entries.proofs.Whole.{stored-past, decode-upToChunks, stored-key-refused, stored-value-refused, stored-both-read, key-end-small}
 use borrow.Author.Needs.{needs}
 use Rattle.entries.proofs.read.stored.Statement.{statement}
 use Rattle.entries.proofs.read.stored.Tie as tie
@@ -20,7 +20,7 @@ slice-aggregate-bytes c =
     let p = c .before in let chunk-at = p .chunk-at in
     let start = p .before .before .before .before in
     sym (length-take-le (chunk-at .result) (start .args .img .now)
-    (omega (arith, chunk-at .ensures, chunks-inside (start .pre .0) (start .args .t) (start .pre .1), start .pre .0 .within)))
+    (omega (arith, chunk-at .ensures, chunks-inside (start .pre .framed) (start .args .t) (start .pre .tierIn), start .pre .framed .within)))
 
 chunk-at-requires-2 : tie.Need-chunk-at-requires-2
 chunk-at-requires-2 c κs = search needs
@@ -39,8 +39,8 @@ returns-2 c =
     let p = c .before .before .before in let chunk-at2 = p .chunk-at2 in
     let p = p .before .before in let chunk-at = p .chunk-at in
     let start = p .before .before .before .before in
-    sym (key-refused (start .args .z) (start .args .img .now) (start .args .t) (start .args .c)
-    (read-at (start .args .z) (start .args .img .now) (start .args .t) (chunk-at .ensures) (chunk-at2 .ensures) ∙ sym
+    sym (stored-key-refused (start .args .z) (start .args .img .now) (start .args .t) (start .args .c)
+    (decode-upToChunks (start .args .z) (start .args .img .now) (start .args .t) (chunk-at .ensures) (chunk-at2 .ensures) ∙ sym
     (c .before .before .read .ensures) ∙ c .enum-told .given .1))
 
 add-read : tie.Need-add-read
@@ -51,8 +51,8 @@ add-read c =
     let start = p .before .before .before .before in
     omega (
       arith,
-      key-room (start .args .z) (start .args .img .now) (start .args .t) (start .args .c) (start .pre .0) (start .pre .1)
-          (read-at (start .args .z) (start .args .img .now) (start .args .t) (chunk-at .ensures) (chunk-at2 .ensures) ∙ sym (read .ensures)
+      key-end-small (start .args .z) (start .args .img .now) (start .args .t) (start .args .c) (start .pre .framed) (start .pre .tierIn)
+          (decode-upToChunks (start .args .z) (start .args .img .now) (start .args .t) (chunk-at .ensures) (chunk-at2 .ensures) ∙ sym (read .ensures)
           ∙ c .before .k .given .1),
     )
 
@@ -72,9 +72,9 @@ returns-3 c =
     let p = p .before in let chunk-at2 = p .chunk-at2 in
     let p = p .before .before in let chunk-at = p .chunk-at in
     let start = p .before .before .before .before in
-    sym (value-refused (start .args .z) (start .args .img .now) (start .args .t) (start .args .c)
-    (read-at (start .args .z) (start .args .img .now) (start .args .t) (chunk-at .ensures) (chunk-at2 .ensures) ∙ sym (read .ensures) ∙ k .given .1)
-    (read-at (start .args .z) (start .args .img .now) (start .args .t) (chunk-at .ensures) refl
+    sym (stored-value-refused (start .args .z) (start .args .img .now) (start .args .t) (start .args .c)
+    (decode-upToChunks (start .args .z) (start .args .img .now) (start .args .t) (chunk-at .ensures) (chunk-at2 .ensures) ∙ sym (read .ensures) ∙ k .given .1)
+    (decode-upToChunks (start .args .z) (start .args .img .now) (start .args .t) (chunk-at .ensures) refl
     ∙ sym (c .before .before .read2 .ensures) ∙ c .enum-told2 .given .1))
 
 returns-4 : tie.Need-returns-4
@@ -85,9 +85,9 @@ returns-4 c =
     let p = p .before in let chunk-at2 = p .chunk-at2 in
     let p = p .before .before in let chunk-at = p .chunk-at in
     let start = p .before .before .before .before in
-    sym (both-read (start .args .z) (start .args .img .now) (start .args .t) (start .args .c)
-    (read-at (start .args .z) (start .args .img .now) (start .args .t) (chunk-at .ensures) (chunk-at2 .ensures) ∙ sym (read .ensures) ∙ k .given .1)
-    (read-at (start .args .z) (start .args .img .now) (start .args .t) (chunk-at .ensures) refl ∙ sym (read2 .ensures) ∙ c .before .v .given .1))
+    sym (stored-both-read (start .args .z) (start .args .img .now) (start .args .t) (start .args .c)
+    (decode-upToChunks (start .args .z) (start .args .img .now) (start .args .t) (chunk-at .ensures) (chunk-at2 .ensures) ∙ sym (read .ensures) ∙ k .given .1)
+    (decode-upToChunks (start .args .z) (start .args .img .now) (start .args .t) (chunk-at .ensures) refl ∙ sym (read2 .ensures) ∙ c .before .v .given .1))
 
 pub stored-spec : {M : Type 1} → statement M
 stored-spec =

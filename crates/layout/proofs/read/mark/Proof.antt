@@ -11,7 +11,7 @@ free-list-at-requires c κs = search needs
 bit-requires : tie.Need-bit-requires
 bit-requires c κs =
     let s = c .before .before in
-    omega (arith, free-inside (s .pre .0) (s .args .t) (s .pre .1), s .pre .0 .within, s .pre .2, c .free-list-at .ensures)
+    omega (arith, free-inside (s .pre .framed) (s .args .t) (s .pre .tier), s .pre .framed .within, s .pre .within, c .free-list-at .ensures)
 
 returns : tie.Need-returns
 unfolding mark

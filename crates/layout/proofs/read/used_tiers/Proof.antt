@@ -1,8 +1,6 @@
-use denote.Ref.{now}
-use mathlib.Core.Path.{refl, sym, _∙_}
-use Rattle.layout.specs.Places.{global, usedTiers, wide}
-use Rattle.layout.proofs.Places.{global-at, get-at}
-use Rattle.layout.proofs.Bounds.{global-room}
+use mathlib.Core.Path.{_∙_}
+use Rattle.layout.specs.Places.{usedTiers}
+use Rattle.layout.proofs.PlaceBytes.{le-place, global-bytes}
 use native.Mathlib.Omega.{arith}
 use borrow.Author.Needs.{needs}
 use Rattle.layout.proofs.read.used_tiers.Statement.{statement}
@@ -12,15 +10,14 @@ add-read-le : tie.Need-add-read-le
 add-read-le c = search needs
 
 read-le-requires : tie.Need-read-le-requires
-read-le-requires c κs = omega (arith, global-room (c .before .before .pre))
+read-le-requires c κs =
+    let s = c .before .before in
+    (global-bytes (s .pre) usedTiers .within, omega arith)
 
 returns : tie.Need-returns
-unfolding wide
 returns c =
     let s = c .before .before .before in
-    let z = s .args .z in
-    let img = now (s .args .img) in
-    c .read-le .ensures .0 ∙ get-at z img (global usedTiers) (sym (global-at z usedTiers)) refl
+    c .read-le .ensures .0 ∙ le-place (global-bytes (s .pre) usedTiers) _
 
 pub used-tiers-spec : {M : Type 1} → statement M
 used-tiers-spec = tie.close (tie.spec add-read-le read-le-requires returns)

@@ -1,8 +1,7 @@
-use denote.Ref.{now}
-use mathlib.Core.Path.{sym, _∙_}
-use Rattle.layout.specs.Places.{lowestFree, low, sharedPlace}
-use Rattle.layout.proofs.Places.{put-at, shared-at, shared-wide-main, shared-wide-extra, shared-in}
-use Rattle.layout.proofs.Bounds.{place-fits}
+use mathlib.Core.Path.{_∙_}
+use Rattle.layout.specs.Places.{lowestFree, low}
+use Rattle.layout.proofs.Places.{shared-wide-main, shared-wide-extra}
+use Rattle.layout.proofs.PlaceBytes.{putLe-place, shared-bytes}
 use borrow.Author.Needs.{needs}
 use Rattle.layout.proofs.write.put_low.Statement.{statement}
 use Rattle.layout.proofs.write.put_low.Tie as tie
@@ -12,60 +11,37 @@ shared-at-requires c κs = search needs
 
 write-le-requires : tie.Need-write-le-requires
 write-le-requires c κs =
-    let s = c .before .before .before .before .before in
-    let z = s .args .z in
-    let t = s .args .t in
-    place-fits (s .pre .0) (sharedPlace z lowestFree low t) (shared-in z lowestFree low t (s .pre .1))
-    (c .before .before .before .shared-at .ensures ∙ sym (shared-at z lowestFree low t))
-    (sym (shared-wide-main z lowestFree low t (c .before .if1 .taken)))
+    let p = c .before .before .before in let shared-at = p .shared-at in
+    let s = p .before .before in
+    shared-bytes (s .pre) lowestFree low (shared-at .ensures) (shared-wide-main _ _ _ _ (c .before .if1 .taken)) .within
 
 write-le-requires-2 : tie.Need-write-le-requires-2
 write-le-requires-2 c κs =
-    let s = c .before .before .before .before .before in
-    let z = s .args .z in
-    let t = s .args .t in
-    place-fits (s .pre .0) (sharedPlace z lowestFree low t) (shared-in z lowestFree low t (s .pre .1))
-    (c .before .before .before .shared-at .ensures ∙ sym (shared-at z lowestFree low t))
-    (sym (shared-wide-extra z lowestFree low t (c .before .if1 .left)))
+    let p = c .before .before .before in let shared-at = p .shared-at in
+    let s = p .before .before in
+    shared-bytes (s .pre) lowestFree low (shared-at .ensures) (shared-wide-extra _ _ _ _ (c .before .if1 .left)) .within
 
 same-length : tie.Need-same-length
 same-length c = search needs
 
 returns : tie.Need-returns
 returns c =
-    let s = c .before .before .before .before .before .before .before .before in
-    let z = s .args .z in
-    let img = now (s .args .img) in
-    let v = s .args .v in
-    let t = s .args .t in
-    c .before .before .write-le .ensures
-    ∙ put-at z img (sharedPlace z lowestFree low t) v
-    (c .before .before .before .before .before .before .shared-at .ensures ∙ sym (shared-at z lowestFree low t))
-    (sym (shared-wide-main z lowestFree low t (c .before .before .before .before .if1 .taken)))
+    let p = c .before .before in let write-le = p .write-le in
+    let p = p .before .before in let if1 = p .if1 in
+    let p = p .before .before in let shared-at = p .shared-at in
+    let s = p .before .before in
+    write-le .ensures ∙ putLe-place (shared-bytes (s .pre) lowestFree low (shared-at .ensures) (shared-wide-main _ _ _ _ (if1 .taken))) _ _
 
 same-length-2 : tie.Need-same-length-2
 same-length-2 c = search needs
 
 returns-2 : tie.Need-returns-2
 returns-2 c =
-    let s = c .before .before .before .before .before .before .before .before in
-    let z = s .args .z in
-    let img = now (s .args .img) in
-    let v = s .args .v in
-    let t = s .args .t in
-    c .before .before .write-le2 .ensures
-    ∙ put-at z img (sharedPlace z lowestFree low t) v
-    (c .before .before .before .before .before .before .shared-at .ensures ∙ sym (shared-at z lowestFree low t))
-    (sym (shared-wide-extra z lowestFree low t (c .before .before .before .before .if1 .left)))
+    let p = c .before .before in let write-le = p .write-le2 in
+    let p = p .before .before in let if1 = p .if1 in
+    let p = p .before .before in let shared-at = p .shared-at in
+    let s = p .before .before in
+    write-le .ensures ∙ putLe-place (shared-bytes (s .pre) lowestFree low (shared-at .ensures) (shared-wide-extra _ _ _ _ (if1 .left))) _ _
 
 pub put-low-spec : {M : Type 1} → statement M
-put-low-spec =
-    tie.close
-    (tie.spec
-    shared-at-requires
-    write-le-requires
-    write-le-requires-2
-    same-length
-    returns
-    same-length-2
-    returns-2)
+put-low-spec = tie.close (tie.spec shared-at-requires write-le-requires write-le-requires-2 same-length returns same-length-2 returns-2)

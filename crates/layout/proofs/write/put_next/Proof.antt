@@ -1,8 +1,6 @@
-use denote.Ref.{now}
-use mathlib.Core.Path.{refl, sym, _∙_}
-use Rattle.layout.specs.Places.{nextTier, next, sharedPlace}
-use Rattle.layout.proofs.Places.{put-at, shared-at, shared-wide, shared-in}
-use Rattle.layout.proofs.Bounds.{place-fits}
+use mathlib.Core.Path.{refl, _∙_}
+use Rattle.layout.specs.Places.{nextTier, next}
+use Rattle.layout.proofs.PlaceBytes.{putLe-place, shared-bytes-alike}
 use borrow.Author.Needs.{needs}
 use Rattle.layout.proofs.write.put_next.Statement.{statement}
 use Rattle.layout.proofs.write.put_next.Tie as tie
@@ -13,24 +11,17 @@ shared-at-requires c κs = search needs
 write-le-requires : tie.Need-write-le-requires
 write-le-requires c κs =
     let s = c .before .before .before in
-    let z = s .args .z in
-    let t = s .args .t in
-    place-fits (s .pre .0) (sharedPlace z nextTier next t) (shared-in z nextTier next t (s .pre .1))
-    (c .before .shared-at .ensures ∙ sym (shared-at z nextTier next t)) (sym (shared-wide z nextTier next t refl))
+    shared-bytes-alike (s .pre) nextTier next (c .before .shared-at .ensures) refl .within
 
 same-length : tie.Need-same-length
 same-length c = search needs
 
 returns : tie.Need-returns
 returns c =
-    let s = c .before .before .before .before .before .before in
-    let z = s .args .z in
-    let img = now (s .args .img) in
-    let v = s .args .v in
-    let t = s .args .t in
-    c .before .before .write-le .ensures
-    ∙ put-at z img (sharedPlace z nextTier next t) v
-    (c .before .before .before .before .shared-at .ensures ∙ sym (shared-at z nextTier next t)) (sym (shared-wide z nextTier next t refl))
+    let p = c .before .before in let write-le = p .write-le in
+    let p = p .before .before in let shared-at = p .shared-at in
+    let s = p .before .before in
+    write-le .ensures ∙ putLe-place (shared-bytes-alike (s .pre) nextTier next (shared-at .ensures) refl) _ _
 
 pub put-next-spec : {M : Type 1} → statement M
 put-next-spec = tie.close (tie.spec shared-at-requires write-le-requires same-length returns)

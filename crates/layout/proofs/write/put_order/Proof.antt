@@ -1,8 +1,6 @@
-use denote.Ref.{now}
 use mathlib.Core.Path.{_∙_}
 use Rattle.layout.specs.Places.{order}
-use Rattle.layout.proofs.Places.{counter-put}
-use Rattle.layout.proofs.Bounds.{counters-room}
+use Rattle.layout.proofs.PlaceBytes.{putLe-place, counter-bytes}
 use native.Mathlib.Omega.{arith}
 use borrow.Author.Needs.{needs}
 use Rattle.layout.proofs.write.put_order.Statement.{statement}
@@ -14,24 +12,22 @@ counters-at-requires c κs = search needs
 add-at : tie.Need-add-at
 add-at c =
     let s = c .before .before in
-    omega (arith, counters-room (s .pre .0) (s .args .t) (s .pre .1), s .pre .0 .small, c .counters-at .ensures)
+    omega (arith, counter-bytes (s .pre) order (c .counters-at .ensures) .small)
 
 write-le-requires : tie.Need-write-le-requires
 write-le-requires c κs =
     let s = c .before .before .before in
-    omega (arith, counters-room (s .pre .0) (s .args .t) (s .pre .1), c .before .counters-at .ensures)
+    counter-bytes (s .pre) order (c .before .counters-at .ensures) .within
 
 same-length : tie.Need-same-length
 same-length c = search needs
 
 returns : tie.Need-returns
 returns c =
-    let s = c .before .before .before .before .before .before in
-    let z = s .args .z in
-    let img = now (s .args .img) in
-    let v = s .args .v in
-    c .before .before .write-le .ensures ∙ counter-put z img (s .args .t) order v (c .before .before .before .before .counters-at .ensures)
+    let p = c .before .before in let write-le = p .write-le in
+    let p = p .before .before in let counters-at = p .counters-at in
+    let s = p .before .before in
+    write-le .ensures ∙ putLe-place (counter-bytes (s .pre) order (counters-at .ensures)) _ _
 
 pub put-order-spec : {M : Type 1} → statement M
-put-order-spec =
-    tie.close (tie.spec counters-at-requires add-at write-le-requires same-length returns)
+put-order-spec = tie.close (tie.spec counters-at-requires add-at write-le-requires same-length returns)

@@ -1,9 +1,5 @@
-use denote.Ref.{now}
-use mathlib.Core.Path.{refl, sym, _∙_, ap}
-use Prim.Native.Nat.{_+_, _*_}
-use Rattle.layout.specs.Places.{slot, tier, wide, partWide}
-use Rattle.layout.proofs.Places.{put-at, slot-at}
-use Rattle.layout.proofs.Bounds.{slot-room}
+use mathlib.Core.Path.{refl, _∙_}
+use Rattle.layout.proofs.PlaceBytes.{putLe-place, slot-bytes}
 use native.Mathlib.Omega.{arith}
 use borrow.Author.Needs.{needs}
 use Rattle.layout.proofs.write.put_slot.Statement.{statement}
@@ -15,34 +11,27 @@ tier-at-requires c κs = search needs
 mul-at : tie.Need-mul-at
 mul-at c =
     let s = c .before .before in
-    omega (arith, slot-room (s .pre .0) (s .args .t) (s .args .j) (s .pre .1) (s .pre .2), s .pre .0 .small)
+    omega (arith, slot-bytes (s .pre) (c .tier-at .ensures) refl .small)
 
 add-at : tie.Need-add-at
 add-at c =
     let s = c .before .before in
-    omega (arith, slot-room (s .pre .0) (s .args .t) (s .args .j) (s .pre .1) (s .pre .2), s .pre .0 .small, c .tier-at .ensures)
+    omega (arith, slot-bytes (s .pre) (c .tier-at .ensures) refl .small)
 
 write-le-requires : tie.Need-write-le-requires
 write-le-requires c κs =
     let s = c .before .before .before in
-    omega (arith, slot-room (s .pre .0) (s .args .t) (s .args .j) (s .pre .1) (s .pre .2), c .before .tier-at .ensures)
+    slot-bytes (s .pre) (c .before .tier-at .ensures) refl .within
 
 same-length : tie.Need-same-length
 same-length c = search needs
 
 returns : tie.Need-returns
-unfolding wide partWide
 returns c =
-    let s = c .before .before .before .before .before .before in
-    let z = s .args .z in
-    let img = now (s .args .img) in
-    let v = s .args .v in
-    let t = s .args .t in
-    let j = s .args .j in
-    c .before .before .write-le .ensures
-    ∙ put-at z img (tier t (slot j)) v
-    (ap (λ x. x + j * z .settings .slotSize) (c .before .before .before .before .tier-at .ensures) ∙ sym (slot-at z t j)) refl
+    let p = c .before .before in let write-le = p .write-le in
+    let p = p .before .before in let tier-at = p .tier-at in
+    let s = p .before .before in
+    write-le .ensures ∙ putLe-place (slot-bytes (s .pre) (tier-at .ensures) refl) _ _
 
 pub put-slot-spec : {M : Type 1} → statement M
-put-slot-spec =
-    tie.close (tie.spec tier-at-requires mul-at add-at write-le-requires same-length returns)
+put-slot-spec = tie.close (tie.spec tier-at-requires mul-at add-at write-le-requires same-length returns)

@@ -1,9 +1,6 @@
-use denote.Ref.{now}
-use mathlib.Core.Path.{refl, sym, _∙_}
-use Rattle.layout.specs.Places.{global, usedTiers, wide}
-use Rattle.layout.proofs.Places.{global-at, put-at}
-use Rattle.layout.proofs.Bounds.{global-room}
-use native.Mathlib.Omega.{arith}
+use mathlib.Core.Path.{_∙_}
+use Rattle.layout.specs.Places.{usedTiers}
+use Rattle.layout.proofs.PlaceBytes.{putLe-place, global-bytes}
 use borrow.Author.Needs.{needs}
 use Rattle.layout.proofs.write.put_used_tiers.Statement.{statement}
 use Rattle.layout.proofs.write.put_used_tiers.Tie as tie
@@ -13,20 +10,16 @@ add-write-le c = search needs
 
 write-le-requires : tie.Need-write-le-requires
 write-le-requires c κs =
-    let start = c .before .before .before in
-    omega (arith, global-room (start .pre))
+    let s = c .before .before .before in
+    global-bytes (s .pre) usedTiers .within
 
 same-length : tie.Need-same-length
 same-length c = search needs
 
 returns : tie.Need-returns
-unfolding wide
 returns c =
     let s = c .before .before .before .before .before .before in
-    let z = s .args .z in
-    let img = now (s .args .img) in
-    let v = s .args .v in
-    c .before .before .write-le .ensures ∙ put-at z img (global usedTiers) v (sym (global-at z usedTiers)) refl
+    c .before .before .write-le .ensures ∙ putLe-place (global-bytes (s .pre) usedTiers) _ _
 
 pub put-used-tiers-spec : {M : Type 1} → statement M
 put-used-tiers-spec = tie.close (tie.spec add-write-le write-le-requires same-length returns)

@@ -1,6 +1,6 @@
 use native.Mathlib.Omega.{arith}
 use Rattle.layout.proofs.Bounds.{framed-largest}
-use Rattle.placement.proofs.Written.{entry-inside, written-is}
+use Rattle.placement.proofs.Written.{written-inside, written-is}
 use borrow.Author.Needs.{needs}
 use Rattle.placement.proofs.place.write_at.Statement.{statement}
 use Rattle.placement.proofs.place.write_at.Tie as tie
@@ -8,42 +8,41 @@ use Rattle.placement.proofs.place.write_at.Tie as tie
 chunks-for-requires : tie.Need-chunks-for-requires
 chunks-for-requires c κs = search needs
 
-set-marks-requires : tie.Need-set-marks-requires
-set-marks-requires c κs = search needs
+put-marks-requires : tie.Need-put-marks-requires
+put-marks-requires c κs = search needs
 
 chunk-at-requires : tie.Need-chunk-at-requires
 chunk-at-requires c κs =
-    let s = c .before .before .before .before .before .before .before .before in
-    (framed-largest (s .pre .0), s .pre .1, omega (arith, s .pre .4))
+    let start = c .before .before .before .before .before .before .before .before in
+    let tier = start .pre .tier in
+    record { framed = framed-largest (tier .framed); tier = tier .tierIn; within = omega (arith, start .pre .rangeEnds) }
 
 write-entry-requires : tie.Need-write-entry-requires
 write-entry-requires c κs =
-    let s = c .before .before .before .before .before .before .before .before .before .before in
-    omega (
-      arith,
-      entry-inside (s .pre .0) (s .args .t) (s .args .c) (s .args .key .now) (s .args .value .now) (s .pre .2) (s .pre .3) (s .pre .4)
-          (s .pre .1),
-      c .before .chunk-at .ensures,
-      c .before .before .before .before .set-marks .kept .1 .0,
-    )
+    let p = c .before in let chunk-at = p .chunk-at in
+    let p = p .before .before .before in let put-marks = p .put-marks in
+    let start = p .before .before .before .before .before .before in
+    omega (arith, written-inside (start .pre), chunk-at .ensures, put-marks .kept .1 .0)
 
 same-length : tie.Need-same-length
 same-length c = search needs
 
 returns : tie.Need-returns
 returns c =
-    let s = c .before .before .before .before .before .before .before .before .before .before .before .before .before in
-    written-is (s .args .z) (s .args .img .now) (s .args .t) (s .args .c) (s .args .key .now) (s .args .value .now)
-    (c .before .before .before .before .before .before .before .before .before .chunks-for .ensures)
-    (c .before .before .before .before .before .before .before .set-marks .ensures) (c .before .before .before .before .chunk-at .ensures)
-    (c .before .before .write-entry .ensures)
+    let p = c .before .before in let write-entry = p .write-entry in
+    let p = p .before .before in let chunk-at = p .chunk-at in
+    let p = p .before .before .before in let put-marks = p .put-marks in
+    let p = p .before .before in let chunks-for = p .chunks-for in
+    let start = p .before .before .before .before in
+    written-is (start .args .z) (start .args .img .now) (start .args .t) (start .args .c) (start .args .key .now) (start .args .value .now)
+    (chunks-for .ensures) (put-marks .ensures) (chunk-at .ensures) (write-entry .ensures)
 
 pub write-at-spec : {M : Type 1} → statement M
 write-at-spec =
     tie.close
     (tie.spec
     chunks-for-requires
-    set-marks-requires
+    put-marks-requires
     chunk-at-requires
     write-entry-requires
     same-length

@@ -1,11 +1,10 @@
 use native.Mathlib.Omega.{arith}
 use mathlib.Core.Path.{refl, sym, _∙_}
 use borrow.Author.Needs.{needs}
-use Prim.Native.Nat.{ℕ, _-_, _+_}
+use Prim.Native.Nat.{_-_}
 use Rattle.layout.proofs.Bounds.{framed-bounded}
-use Rattle.chains.proofs.Along.{chain-tier}
 use Rattle.placement.specs.Runs.{fullBut, clearBut}
-use Rattle.placement.proofs.FirstRun.{Seeking, seeking-starts, seeking-ends, seeking-out, seeking-found, seeking-turns}
+use Rattle.placement.proofs.FirstRun.{Seeking, seeking-starts, seeking-ends, seeking-out, seeking-tier, seeking-found, seeking-turns}
 use Rattle.placement.proofs.runs.first_run.Statement.{statement}
 use Rattle.placement.proofs.runs.first_run.Tie as tie
 
@@ -25,8 +24,7 @@ loop-holds : tie.Need-loop-holds Inv-loop μ-loop
 loop-holds c =
     let b = c .before .before in
     seeking-starts (b .args .z) (fullBut (b .args .z) (b .args .img .now) (b .args .old))
-    (clearBut (b .args .z) (b .args .img .now) (b .args .old)) (b .args .img .now) (b .args .s) (b .args .n) (c .tier-count .result)
-    (b .args .s + 1) (c .tier-count .ensures) refl (b .pre .2)
+    (clearBut (b .args .z) (b .args .img .now) (b .args .old)) (b .args .img .now) (b .args .s) (b .args .n) (c .tier-count .ensures) refl
 
 returns : tie.Need-returns Inv-loop μ-loop
 returns c =
@@ -39,7 +37,7 @@ run-in-requires : tie.Need-run-in-requires Inv-loop μ-loop
 run-in-requires c κs =
     let b = c .before .before .before .before .before in (
       b .pre .0,
-      chain-tier (b .args .z) (b .args .img .now) (λ u. ℕ) (b .args .s) (c .before .before .loop .inv .along) (omega arith) (c .if1 .left),
+      seeking-tier _ _ _ _ _ _ (c .before .before .loop .inv) (omega arith) (c .if1 .left) (b .pre .2),
       b .pre .3,
       b .pre .4,
     )
@@ -63,8 +61,7 @@ next-of-requires : tie.Need-next-of-requires Inv-loop μ-loop
 next-of-requires c κs =
     let b = c .before .before .before .before .before .before .before .before in (
       b .pre .0,
-      chain-tier (b .args .z) (b .args .img .now) (λ u. ℕ) (b .args .s) (c .before .before .before .before .before .loop .inv .along)
-          (omega arith) (c .before .before .before .if1 .left),
+      seeking-tier _ _ _ _ _ _ (c .before .before .before .before .before .loop .inv) (omega arith) (c .before .before .before .if1 .left) (b .pre .2),
     )
 
 add-k : tie.Need-add-k Inv-loop μ-loop
@@ -81,7 +78,7 @@ loop-again c =
     seeking-turns (b .args .z) (fullBut (b .args .z) (b .args .img .now) (b .args .old))
     (clearBut (b .args .z) (b .args .img .now) (b .args .old)) (b .args .img .now) (b .args .s) (b .args .n)
     (c .before .before .before .before .before .before .loop .inv) (omega arith) (c .before .before .before .before .if1 .left)
-    (c .next-of .result) (sym (c .before .before .before .run-in .ensures) ∙ c .before .enum-told .given .1) (c .next-of .ensures)
+    (sym (c .before .before .before .run-in .ensures) ∙ c .before .enum-told .given .1) (c .next-of .ensures)
 
 returns-3 : tie.Need-returns-3 Inv-loop μ-loop
 returns-3 c =

@@ -24,26 +24,28 @@ start-requires c κs = search needs
 loop-holds : tie.Need-loop-holds Inv-loop μ-loop
 loop-holds c =
     let start2 = c .before .before in (
-      coming-starts (start2 .args .z) (start2 .args .img .now) (start2 .args .t) (start2 .args .j) (start2 .pre .2) (c .start .result)
-          (start2 .args .lookup) (start2 .pre .5) (c .start .ensures .0) (c .start .ensures .1),
+      coming-starts (start2 .args .z) (start2 .args .img .now) (start2 .args .t) (start2 .args .j) (start2 .pre .slot .slotIn) (c .start .result)
+          (start2 .args .lookup) (start2 .pre .lookupIs) (c .start .ensures .0) (c .start .ensures .1),
       refl,
     )
 
 slot-requires : tie.Need-slot-requires Inv-loop μ-loop
 slot-requires c κs =
-    let start = c .before .before .before .before .before in (
-      start .pre .0,
-      start .pre .1,
-      coming-lt (start .args .z) (start .args .img .now) (start .args .t) (start .args .j) (start .pre .2)
-          (c .before .before .loop .inv .0),
-    )
+    let start = c .before .before .before .before .before in
+    record {
+      framed = start .pre .slot .tier .framed;
+      tier = start .pre .slot .tier .tierIn;
+      slot =
+          coming-lt (start .args .z) (start .args .img .now) (start .args .t) (start .args .j) (start .pre .slot .slotIn)
+          (c .before .before .loop .inv .0);
+    }
 
 returns : tie.Need-returns Inv-loop μ-loop
 returns c =
     let p = c .before in let slot = p .slot in
     let p = p .before .before .before in let the-loop = p .loop in
     let start = p .before .before .before in
-    coming-empty (start .args .z) (start .args .img .now) (start .args .t) (start .args .j) (start .pre .2) (the-loop .inv .0)
+    coming-empty (start .args .z) (start .args .img .now) (start .args .t) (start .args .j) (start .pre .slot .slotIn) (the-loop .inv .0)
     (c .before .before .if1 .taken) (slot .result) (slot .ensures) (c .if2 .taken)
 
 slot-key-requires : tie.Need-slot-key-requires Inv-loop μ-loop
@@ -58,14 +60,18 @@ returns-2 c =
     let p = p .before in let if1 = p .if1 in
     let p = p .before .before in let the-loop = p .loop in
     let start = p .before .before .before in
-    coming-hit (start .args .z) (start .args .img .now) (start .args .t) (start .args .j) (start .pre .2) (the-loop .inv .0) (if1 .taken)
+    coming-hit (start .args .z) (start .args .img .now) (start .args .t) (start .args .j) (start .pre .slot .slotIn) (the-loop .inv .0) (if1 .taken)
     (slot .result) (slot .ensures) (sym (c .before .same-hit .ensures) ∙ c .if4 .taken)
 
 step-requires : tie.Need-step-requires Inv-loop μ-loop
 step-requires c κs =
     let p = c .before .before .before .before .before .before in let the-loop = p .loop in
     let start = p .before .before .before in
-    omega (arith, coming-lt (start .args .z) (start .args .img .now) (start .args .t) (start .args .j) (start .pre .2) (the-loop .inv .0), the-loop .inv .1)
+    omega (
+      arith,
+      coming-lt (start .args .z) (start .args .img .now) (start .args .t) (start .args .j) (start .pre .slot .slotIn) (the-loop .inv .0),
+      the-loop .inv .1,
+    )
 
 loop-less : tie.Need-loop-less Inv-loop μ-loop
 loop-less c =
@@ -75,8 +81,8 @@ loop-less c =
     let start = p .before .before .before in
     omega (
       arith,
-      coming-nearer (start .args .z) (start .args .img .now) (start .args .t) (start .args .j) (start .pre .2) (the-loop .inv .0)
-          (if1 .taken) (slot2 .result) (slot2 .ensures) (start .pre .0) (c .step .result .slot)
+      coming-nearer (start .args .z) (start .args .img .now) (start .args .t) (start .args .j) (start .pre .slot .slotIn) (the-loop .inv .0)
+          (if1 .taken) (slot2 .result) (slot2 .ensures) (start .pre .slot .tier .framed) (c .step .result .slot)
           (c .step .ensures .0 ∙ ap (λ (n : ℕ). next n (the-loop .cursor .slot)) (the-loop .inv .1)),
     )
 
@@ -93,9 +99,9 @@ loop-again c =
     ⊎-elim (λ h. sym (h .1 .ensures) ∙ h .2 .left) (λ h.
     hits-differs (start .args .z) (start .args .img .now)
     (keyAt (start .args .z) (start .args .img .now) (start .args .t) (start .args .j)) (start .args .t) (slot2 .result)
-    (start .args .lookup) (start .pre .5) (λ q. h .left (c .before .before .slot-key .ensures ∙ q))) (c .before .if3 .came) in (
-      coming-turns (start .args .z) (start .args .img .now) (start .args .t) (start .args .j) (start .pre .2) (the-loop .inv .0) (if1 .taken)
-          (slot2 .result) (slot2 .ensures) (start .pre .0) (if2 .left) miss (c .step .result .slot)
+    (start .args .lookup) (start .pre .lookupIs) (λ q. h .left (c .before .before .slot-key .ensures ∙ q))) (c .before .if3 .came) in (
+      coming-turns (start .args .z) (start .args .img .now) (start .args .t) (start .args .j) (start .pre .slot .slotIn) (the-loop .inv .0) (if1 .taken)
+          (slot2 .result) (slot2 .ensures) (start .pre .slot .tier .framed) (if2 .left) miss (c .step .result .slot)
           (c .step .ensures .0 ∙ ap (λ (n : ℕ). next n (the-loop .cursor .slot)) (the-loop .inv .1)),
       c .step .ensures .1 ∙ the-loop .inv .1,
     )
@@ -103,8 +109,8 @@ loop-again c =
 returns-3 : tie.Need-returns-3 Inv-loop μ-loop
 returns-3 c =
     let start = c .before .before .before .before .before in
-    coming-found (start .args .z) (start .args .img .now) (start .args .t) (start .args .j) (start .pre .2)
-    (c .before .before .loop .inv .0) (start .pre .4 .hashed .lookupAgrees) (c .if1 .left)
+    coming-found (start .args .z) (start .args .img .now) (start .args .t) (start .args .j) (start .pre .slot .slotIn)
+    (c .before .before .loop .inv .0) (start .pre .fits .hashed .lookupAgrees) (c .if1 .left)
 
 pub ends-at-spec : {M : Type 1} → statement M
 ends-at-spec =

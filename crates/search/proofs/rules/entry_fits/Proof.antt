@@ -75,14 +75,12 @@ chunks-for-requires c κs =
     let p = p .before .before in let stored = p .stored in
     let p = p .before in let slot-chunk = p .slot-chunk in
     let p = p .before .before .before in let slot = p .slot in
-    let start = p .before .before .before in (
-      start .pre .0 .valid,
-      small (start .args .z) (start .args .img .now) (start .args .s) (start .args .t) (start .args .j) (slot .result)
-          (slot-chunk .result) (slot .ensures) (slot-chunk .ensures) (e .given .0 .0) (sym (stored .ensures) ∙ e .given .1) .0,
-      small
-          (start .args .z) (start .args .img .now) (start .args .s) (start .args .t) (start .args .j) (slot .result) (slot-chunk .result)
-          (slot .ensures) (slot-chunk .ensures) (e .given .0 .0) (sym (stored .ensures) ∙ e .given .1) .1,
-    )
+    let start = p .before .before .before in
+    record {
+      valid = start .pre .tier .framed .valid;
+      lengths = small (start .args .z) (start .args .img .now) (start .args .s) (start .args .t) (start .args .j) (slot .result)
+          (slot-chunk .result) (slot .ensures) (slot-chunk .ensures) (e .given .0 .0) (sym (stored .ensures) ∙ e .given .1);
+    }
 
 returns-5 : tie.Need-returns-5
 returns-5 c =
@@ -109,8 +107,8 @@ add-if5 c =
           (sound (start .args .z) (start .args .img .now) (start .args .s) (start .args .t) (start .args .j) (slot .result)
           (slot-chunk .result) (slot .ensures) (slot-chunk .ensures) (e .given .0 .0) (sym (stored .ensures) ∙ e .given .1)),
       c .if4 .left,
-      start .pre .0 .valid .chunks,
-      start .pre .0 .valid .mostChunks,
+      start .pre .tier .framed .valid .chunks,
+      start .pre .tier .framed .valid .mostChunks,
     )
 
 returns-6 : tie.Need-returns-6
@@ -131,13 +129,14 @@ hash-agrees-requires c κs =
     let p = p .before .before in let stored = p .stored in
     let p = p .before in let slot-chunk = p .slot-chunk in
     let p = p .before .before .before in let slot = p .slot in
-    let start = p .before .before .before in (
-      start .pre .0,
-      key-in-image (start .args .z) (start .args .img .now) (start .args .t) (slot-chunk .result)
+    let start = p .before .before .before in
+    record {
+      framed = start .pre .tier .framed;
+      keyInside = key-in-image (start .args .z) (start .args .img .now) (start .args .t) (slot-chunk .result)
           (sound (start .args .z) (start .args .img .now) (start .args .s) (start .args .t) (start .args .j) (slot .result) (slot-chunk .result)
           (slot .ensures) (slot-chunk .ensures) (e .given .0 .0) (sym (stored .ensures) ∙ e .given .1))
-          (start .pre .0) (start .pre .1),
-    )
+          (start .pre .tier .framed) (start .pre .tier .tierIn);
+    }
 
 returns-7 : tie.Need-returns-7
 returns-7 c =

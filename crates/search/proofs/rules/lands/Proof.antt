@@ -1,10 +1,9 @@
-use Rattle.search.proofs.Ending.{lands-in, lands-first, lands-full, lands-decided}
-use Rattle.search.proofs.Fitting.{key-room, key-part}
+use Rattle.search.proofs.Ending.{lands-in, lands-first, lands-holds, lands-decided}
+use Rattle.search.proofs.Fitting.{entry-has-key, key-part}
 use Rattle.search.specs.Rules.{keyAt}
 use Rattle.search.specs.Search.{seekIn}
 use Rattle.lists.proofs.Decides.{decided-true, decided-false}
 use Rattle.entries.specs.Keys.{segmentOf, lookupKey, slotKey}
-use Rattle.entries.specs.declared.Entry.{Entry}
 use borrow.Author.Tests.{not-true, not-false}
 use mathlib.Core.Path.{_≡_, sym, ap, _∙_}
 use native.Mathlib.Omega.{arith}
@@ -27,15 +26,13 @@ slot-key-requires c κs = search needs
 
 ends-at-requires : tie.Need-ends-at-requires
 ends-at-requires c κs =
-    let start = c .before .before .before in (
-      start .pre .0,
-      start .pre .3,
-      start .pre .4,
-      start .pre .5,
-      start .pre .6,
-      c .slot-key .ensures ∙ ap
-          (slotKey (start .args .z .settings)) (c .before .slot .ensures) ∙ sym (start .pre .6 .hashed .lookupAgrees),
-    )
+    let start = c .before .before .before in
+    record {
+      slot = search needs;
+      fits = start .pre .fits;
+      lookupIs = c .slot-key .ensures ∙ ap (slotKey (start .args .z .settings)) (c .before .slot .ensures)
+          ∙ sym (start .pre .fits .hashed .lookupAgrees);
+    }
 
 returns : tie.Need-returns
 returns c =
@@ -57,7 +54,8 @@ returns-2 c =
     (start .args .t)
     ≡ start .args .j}
     (ends-at .result) (ends-at .ensures) (not-false _ (c .before .if1 .left)))
-    (start .args .s) (start .pre .6) (start .pre .2) (start .pre .1) (start .pre .3) (start .pre .5) (c .if2 .taken)
+    (start .args .s) (start .pre .fits) (start .pre .slot .tier .segmentIn) (start .pre .slot .tier .chains .chainTiers)
+    (start .pre .slot .tier .tierIn) (start .pre .slot .full) (c .if2 .taken)
 
 entry-at-requires : tie.Need-entry-at-requires
 entry-at-requires c κs = search needs
@@ -66,14 +64,11 @@ add-to : tie.Need-add-to
 add-to c =
     let p = c .before in let entry-at = p .entry-at in
     let start = p .before .before .before .before .before .before .before in
-    omega (
-      arith,
-      key-room (start .args .z) (start .args .img .now) (start .args .t) (start .args .j) (start .pre .0) (start .pre .3)
-          (start .pre .6 .whole),
-      ap (λ (x : Entry). x .keyAt) (entry-at .ensures),
-      ap (λ (x : Entry). x .keyLength) (entry-at .ensures),
-      start .pre .0 .small,
-    )
+    let tier = start .pre .slot .tier in
+    let key =
+    entry-has-key (start .args .z) (start .args .img .now) (start .args .t) (start .args .j)
+    (record { framed = tier .chains .framed; tierIn = tier .tierIn }) (start .pre .fits .whole) (entry-at .result) (entry-at .ensures) in
+    omega (arith, key .keyInside, key .framed .small)
 
 sub-comes-to : tie.Need-sub-comes-to
 sub-comes-to c = search needs
@@ -85,13 +80,11 @@ part-comes-to-end : tie.Need-part-comes-to-end
 part-comes-to-end c =
     let p = c .before in let entry-at = p .entry-at in
     let start = p .before .before .before .before .before .before .before in
-    omega (
-      arith,
-      key-room (start .args .z) (start .args .img .now) (start .args .t) (start .args .j) (start .pre .0) (start .pre .3)
-          (start .pre .6 .whole),
-      ap (λ (x : Entry). x .keyAt) (entry-at .ensures),
-      ap (λ (x : Entry). x .keyLength) (entry-at .ensures),
-    )
+    let tier = start .pre .slot .tier in
+    let key =
+    entry-has-key (start .args .z) (start .args .img .now) (start .args .t) (start .args .j)
+    (record { framed = tier .chains .framed; tierIn = tier .tierIn }) (start .pre .fits .whole) (entry-at .result) (entry-at .ensures) in
+    omega (arith, key .keyInside)
 
 comes-to-requires : tie.Need-comes-to-requires
 comes-to-requires c κs =
@@ -100,28 +93,26 @@ comes-to-requires c κs =
     let p = p .before in let ends-at = p .ends-at in
     let p = p .before in let slot-key = p .slot-key in
     let p = p .before in let slot = p .slot in
-    let start = p .before .before in (
-      start .pre .0,
-      start .pre .1,
-      start .pre .2,
-      start .pre .3,
-      sym
+    let start = p .before .before in
+    record {
+      tier = start .pre .slot .tier;
+      segmentIs = sym
           (ap (segmentOf (start .args .z .settings))
           (key-part (start .args .z) (start .args .img .now) (start .args .t) (start .args .j) (entry-at .result) (entry-at .ensures))
-          ∙ start .pre .6 .hashed .segmentAgrees),
-      slot-key .ensures ∙ ap (slotKey (start .args .z .settings)) (slot .ensures) ∙ sym
+          ∙ start .pre .fits .hashed .segmentAgrees);
+      lookupIs = slot-key .ensures ∙ ap (slotKey (start .args .z .settings)) (slot .ensures) ∙ sym
           (ap (lookupKey (start .args .z .settings))
           (key-part (start .args .z) (start .args .img .now) (start .args .t) (start .args .j) (entry-at .result) (entry-at .ensures))
-          ∙ start .pre .6 .hashed .lookupAgrees),
-      lands-full (start .args .z) (start .args .img .now) (start .args .t) (start .args .j)
+          ∙ start .pre .fits .hashed .lookupAgrees);
+      holds = lands-holds (start .args .z) (start .args .img .now) (start .args .t) (start .args .j)
           (decided-true
           {P = seekIn (start .args .z) (start .args .img .now)
           (keyAt (start .args .z) (start .args .img .now) (start .args .t) (start .args .j)) (start .args .t)
           ≡ start .args .j}
           (ends-at .result) (ends-at .ensures) (not-false _ (if1 .left)))
           _ (key-part (start .args .z) (start .args .img .now) (start .args .t) (start .args .j) (entry-at .result) (entry-at .ensures))
-          (start .pre .5),
-    )
+          (start .pre .slot .full);
+    }
 
 returns-3 : tie.Need-returns-3
 returns-3 c =

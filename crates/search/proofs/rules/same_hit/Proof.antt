@@ -1,9 +1,8 @@
 use native.Mathlib.Omega.{arith}
 use mathlib.Core.Path.{sym, ap, _∙_}
 use Rattle.entries.specs.Keys.{lookupKey}
-use Rattle.entries.specs.declared.Entry.{Entry}
 use Rattle.search.specs.Search.{hits}
-use Rattle.search.proofs.Fitting.{key-room, key-part}
+use Rattle.search.proofs.Fitting.{entry-has-key, key-part}
 use borrow.Author.Needs.{needs}
 use Rattle.search.proofs.rules.same_hit.Statement.{statement}
 use Rattle.search.proofs.rules.same_hit.Tie as tie
@@ -15,13 +14,10 @@ add-to : tie.Need-add-to
 add-to c =
     let p = c .before in let entry-at = p .entry-at in
     let start = p .before .before in
-    omega (
-      arith,
-      (key-room (start .args .z) (start .args .img .now) (start .args .t) (start .args .j) (start .pre .0) (start .pre .1) (start .pre .3 .whole)),
-      ap (λ (x : Entry). x .keyAt) (entry-at .ensures),
-      ap (λ (x : Entry). x .keyLength) (entry-at .ensures),
-      start .pre .0 .small,
-    )
+    let key =
+    entry-has-key (start .args .z) (start .args .img .now) (start .args .t) (start .args .j) (start .pre .slot .tier) (start .pre .fits .whole)
+    (entry-at .result) (entry-at .ensures) in
+    omega (arith, key .keyInside, key .framed .small)
 
 sub-hits : tie.Need-sub-hits
 sub-hits c = search needs
@@ -33,22 +29,20 @@ part-hits-end : tie.Need-part-hits-end
 part-hits-end c =
     let p = c .before in let entry-at = p .entry-at in
     let start = p .before .before in
-    omega (
-      arith,
-      (key-room (start .args .z) (start .args .img .now) (start .args .t) (start .args .j) (start .pre .0) (start .pre .1) (start .pre .3 .whole)),
-      ap (λ (x : Entry). x .keyAt) (entry-at .ensures),
-      ap (λ (x : Entry). x .keyLength) (entry-at .ensures),
-    )
+    let key =
+    entry-has-key (start .args .z) (start .args .img .now) (start .args .t) (start .args .j) (start .pre .slot .tier) (start .pre .fits .whole)
+    (entry-at .result) (entry-at .ensures) in
+    omega (arith, key .keyInside)
 
 hits-requires : tie.Need-hits-requires
 hits-requires c κs =
     let p = c .before .before in let entry-at = p .entry-at in
-    let start = p .before .before in (
-      start .pre .0,
-      start .pre .1,
-      start .pre .4 ∙ ap (lookupKey (start .args .z .settings))
-          (sym (key-part (start .args .z) (start .args .img .now) (start .args .t) (start .args .j) (entry-at .result) (entry-at .ensures))),
-    )
+    let start = p .before .before in
+    record {
+      tier = start .pre .slot .tier;
+      lookupIs = start .pre .lookupIs ∙ ap (lookupKey (start .args .z .settings))
+          (sym (key-part (start .args .z) (start .args .img .now) (start .args .t) (start .args .j) (entry-at .result) (entry-at .ensures)));
+    }
 
 returns : tie.Need-returns
 returns c =

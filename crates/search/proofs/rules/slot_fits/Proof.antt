@@ -29,17 +29,12 @@ lands-requires : tie.Need-lands-requires
 lands-requires c κs =
     let p = c .before in let found = p .found in
     let p = p .before .before in let entry-fits = p .entry-fits in
-    let start = p .before .before in (
-      start .pre .0,
-      start .pre .1,
-      start .pre .2,
-      start .pre .3,
-      start .pre .4,
-      start .pre .5,
-      entry-told (start .args .z)
-          (start .args .img .now) (start .args .s) (start .args .t) (start .args .j) (entry-fits .result) (entry-fits .ensures)
-          (found .given .0 .0) (found .given .0 .1 .0) (found .given .1) .0,
-    )
+    let start = p .before .before in
+    record {
+      slot = start .pre;
+      fits = entry-told (start .args .z) (start .args .img .now) (start .args .s) (start .args .t) (start .args .j) (entry-fits .result)
+          (entry-fits .ensures) (found .given .0 .0) (found .given .0 .1 .0) (found .given .1) .0;
+    }
 
 returns-2 : tie.Need-returns-2
 returns-2 c =

@@ -22,7 +22,7 @@ slot-requires c κs =
     let start = c .before .before .before .before .before in
     let z = start .args .z in
     let img = start .args .img .now in
-    (start .pre .0, tier-met z img (start .pre .2) (start .pre .3) inv, omega arith)
+    record { framed = start .pre .0; tier = tier-met z img (start .pre .2) (start .pre .3) inv; slot = omega arith }
 
 add-c : tie.Need-add-c Inv-loop μ-loop
 add-c c =

@@ -1,0 +1,21 @@
+-- What the functions over lengths and slots ask for. The definitions serve contracts alone.
+use Prim.Native.Nat.{ℕ, _^_, _≤_, _<_}
+use Rattle.settings.specs.declared.Settings.{Settings}
+use Rattle.settings.specs.Rules.{Valid}
+use Rattle.leb128.specs.Leb128.{largestLength}
+
+-- lengths of a key and a value that can be written
+pub record Lengths (k v : ℕ) : Type 0 where
+  pub keySmall : k ≤ largestLength
+  pub valueSmall : v ≤ largestLength
+
+-- settings by which an entry with such lengths is measured
+pub record Measures (st : Settings) (k v : ℕ) : Type 0 where
+  pub valid : Valid st
+  pub lengths : Lengths k v
+
+-- a lookup key and a chunk that fit into a slot
+pub record SlotParts (st : Settings) (lookup chunk : ℕ) : Type 0 where
+  pub valid : Valid st
+  pub lookupIn : lookup < 2 ^ st .keyBits
+  pub chunkIn : chunk < 2 ^ st .chunkBits

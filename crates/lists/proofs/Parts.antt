@@ -1,0 +1,45 @@
+-- A list made of parts: how long a part is, and what counts or adds up its members where a part has become longer by one.
+use Prim.Native.Nat.{ℕ, zero, suc, _+_, _≤_, _<_}
+use mathlib.Core.List.{List, [], _∷_, _++_, flatMap, List·Memᴰ, List·Memᴰ·not-nil, List·Memᴰ·cases-cons}
+use mathlib.Core.Path.{_≡_, ap, sym, _∙_}
+use mathlib.Core.Logic.{⊎-elim, _≢_}
+use native.Mathlib.Omega.{arith}
+use native.Mathlib.Numerals.{add-one}
+use lib.ListN.{length, length-append}
+use Rattle.lists.specs.Cases.{same-or}
+use Rattle.lists.specs.Lists.{below}
+use Rattle.lists.specs.Quantify.{Below}
+use Rattle.lists.proofs.Lists.{flatMap-below, span-in}
+use Rattle.lists.proofs.SameLists.{same-flatMap}
+
+-- one part of a list that is put together is no longer than the whole
+pub part-length : {A B : Type 0} (f : A → List B) (xs : List A) (x : A) → List·Memᴰ x xs → length (f x) ≤ length (flatMap f xs)
+unfolding flatMap
+part-length f [] x m = absurd (List·Memᴰ·not-nil m)
+part-length {A} f (y ∷ xs) x m =
+    let whole : length (f y ++ flatMap f xs) ≡ length (f y) + length (flatMap f xs) = length-append (f y) (flatMap f xs) in
+    ⊎-elim
+    (λ (e : x ≡ y). omega (arith, whole, ap (λ (u : A). length (f u)) e))
+    (λ k. omega (arith, whole, part-length f xs x k))
+    (List·Memᴰ·cases-cons m)
+
+pub parts-same : (f f′ : ℕ → List ℕ) (n : ℕ) → Below n (λ i. f′ i ≡ f i) → flatMap f′ (below n) ≡ flatMap f (below n)
+parts-same f f′ n e = same-flatMap f′ f (below n) (λ i m. e i (omega (arith, span-in 0 n i m)))
+
+module _ (m : List ℕ → ℕ) (adds : (xs ys : List ℕ) → m (xs ++ ys) ≡ m xs + m ys) (f f′ : ℕ → List ℕ) (s t : ℕ) (here : f′ s ≡ f s ++ (t ∷ [])) where
+  pub parts-longer : (n : ℕ) → s < n → Below n (λ i. i ≢ s → f′ i ≡ f i) → m (flatMap f′ (below n)) ≡ m (flatMap f (below n)) + m (t ∷ [])
+  parts-longer zero h e = absurd (omega arith)
+  parts-longer (suc n) h e =
+      let a : m (flatMap f′ (below (n + 1))) ≡ m (flatMap f′ (below n)) + m (f′ n) = ap m (flatMap-below f′ n) ∙ adds (flatMap f′ (below n)) (f′ n) in
+      let b : m (flatMap f (below (n + 1))) ≡ m (flatMap f (below n)) + m (f n) = ap m (flatMap-below f n) ∙ adds (flatMap f (below n)) (f n) in
+      rw (← add-one n)
+      (⊎-elim
+      (λ (q : s ≡ n).
+      let c : m (flatMap f′ (below n)) ≡ m (flatMap f (below n)) = ap m (parts-same f f′ n (λ i k. e i (omega arith) (omega arith))) in
+      let d : m (f′ n) ≡ m (f n) + m (t ∷ []) = rw q at (ap m here ∙ adds (f s) (t ∷ [])) in
+      omega arith)
+      (λ (q : s ≢ n).
+      let c : m (flatMap f′ (below n)) ≡ m (flatMap f (below n)) + m (t ∷ []) = parts-longer n (omega arith) (λ i k g. e i (omega arith) g) in
+      let d : m (f′ n) ≡ m (f n) = ap m (e n (omega arith) (λ (w : n ≡ s). q (sym w))) in
+      omega arith)
+      (same-or s n))

@@ -1,0 +1,36 @@
+-- What the functions that place an entry ask for. The definitions serve contracts alone.
+use Prim.Native.Nat.{ℕ, _+_, _≤_}
+use mathlib.Core.List.{List}
+use lib.ListN.{length}
+use Rattle.settings.specs.declared.Settings.{Settings}
+use Rattle.layout.specs.declared.Shape.{Shape}
+use Rattle.layout.specs.FramedTier.{FramedTier}
+use Rattle.entries.specs.Stored.{chunksFor}
+use Rattle.search.specs.Rules.{SomeEmpty}
+use Rattle.search.specs.Asking.{Seeks, Lacks}
+
+module _ (z : Shape) (img : List ℕ) where
+  open Shape z using (settings)
+  open Settings settings using (chunks)
+
+  -- an entry that ends within tier t's chunks, from chunk c on
+  pub record CanWrite (t c : ℕ) (key value : List ℕ) : Type 0 where
+    pub tier : FramedTier z img t
+    pub keyLong : length key ≤ 1024
+    pub valueLong : length value ≤ 65535
+    pub rangeEnds : c + chunksFor settings (length key) (length value) ≤ chunks
+
+  -- a key that is in no slot of tier t, which has an empty one
+  pub record TakesKey (t : ℕ) (key : List ℕ) : Type 0 where
+    pub someEmpty : SomeEmpty z img t
+    pub lacks : Lacks z img key t
+
+  -- such a key with its lookup key
+  pub record NewKey (key : List ℕ) (lookup t : ℕ) : Type 0 where
+    pub seeks : Seeks z img key lookup t
+    pub takes : TakesKey t key
+
+  -- an entry with such a key
+  pub record CanPlace (t c : ℕ) (key value : List ℕ) : Type 0 where
+    pub write : CanWrite t c key value
+    pub takes : TakesKey t key
