@@ -21,6 +21,10 @@ use Rattle.chains.specs.Walk.{extrasOf}
 use Rattle.chains.proofs.Segments.{chain-cons, extras-of}
 use Rattle.chains.proofs.Linked.{linked-chain}
 
+-- t stands in some segment's chain
+abbrev pub IsChained : Shape → List ℕ → ℕ → Type 0
+IsChained z img t = (s : ℕ) × ((s < z .settings .segments) × List·Memᴰ t (chain z img s))
+
 module _ (z : Shape) (img : List ℕ) (fits : ChainsFit z img) where
   -- ---- what a tier's counters say of where it stands
 

@@ -21,7 +21,7 @@ use Rattle.entries.specs.declared.Live.{Live}
 use Rattle.entries.specs.Keys.{KeyFits}
 use Rattle.entries.specs.Stored.{keyOf}
 use Rattle.entries.specs.Live.{live}
-use Rattle.upkeep.specs.Sound.{Pair, pairOf, pairsOf, SoundImage, ImageFits}
+use Rattle.sound.specs.Sound.{Pair, pairOf, pairsOf, SoundImage, ImageFits}
 use Rattle.image.specs.declared.Counts.{Counts}
 use Rattle.image.specs.declared.Examined.the-variants.{Ready}
 use Rattle.image.specs.Check.{countsOf, examine, verdictOf, check}

@@ -9,7 +9,7 @@ use Rattle.settings.specs.Rules.{Valid}
 use Rattle.layout.specs.declared.Shape.{Shape}
 use Rattle.entries.specs.Keys.{KeyFits}
 use Rattle.entries.specs.Stored.{chunksFor}
-use Rattle.upkeep.specs.Sound.{SoundImage}
+use Rattle.sound.specs.Sound.{SoundImage}
 use Rattle.edit.specs.Replaced.{Storable}
 use Rattle.image.specs.declared.Counts.{Counts}
 use Rattle.image.specs.declared.Stage.{Stage}

@@ -18,7 +18,7 @@ use Rattle.entries.proofs.LiveLists.{live-in}
 use Rattle.search.specs.declared.Found.{Found}
 use Rattle.search.specs.declared.Found.the-variants.{At, Absent}
 use Rattle.search.specs.Search.{search}
-use Rattle.upkeep.specs.Sound.{SoundImage}
+use Rattle.sound.specs.Sound.{SoundImage}
 use Rattle.edit.specs.Edits.{find, removedEntry, removeImage, noRoom}
 use Rattle.edit.specs.Replaced.{isThere, Stores}
 use Rattle.edit.proofs.Finding.{find-live, search-found, search-none}

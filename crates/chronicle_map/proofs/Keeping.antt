@@ -19,10 +19,10 @@ use Rattle.chains.specs.Chains.{chain, chained}
 use Rattle.entries.specs.Stored.{chunksFor}
 use Rattle.entries.specs.Live.{live}
 use Rattle.chunks.specs.Chunks.{markedChunks}
-use Rattle.upkeep.specs.Sound.{pairOf, pairsOf}
+use Rattle.sound.specs.Sound.{pairOf, pairsOf}
 use Rattle.chains.proofs.Chained.{chained-in, extra-once}
-use Rattle.upkeep.proofs.KeyCounts.{withKey, keys-once}
-use Rattle.upkeep.proofs.Marked.{marked-sum}
+use Rattle.sound.proofs.KeyCounts.{withKey, keys-once}
+use Rattle.sound.proofs.Marked.{marked-sum}
 use Rattle.image.specs.declared.Counts.{Counts}
 use Rattle.image.specs.declared.Outcome.the-variants as outcome
 use Rattle.image.specs.Check.{countsOf, check}

@@ -12,10 +12,10 @@ use Rattle.layout.specs.declared.Shape.{Shape}
 use Rattle.entries.specs.declared.Live.{Live}
 use Rattle.entries.specs.Stored.{keyOf}
 use Rattle.entries.specs.Live.{live}
-use Rattle.upkeep.specs.Sound.{Pair, pairOf, pairsOf, SoundImage}
+use Rattle.sound.specs.Sound.{Pair, pairOf, pairsOf, SoundImage}
 use Rattle.edit.specs.Edits.{find}
 use Rattle.chronicle_map.specs.History.{hasKey, Map, mapGet}
-use Rattle.upkeep.proofs.KeyCounts.{pair-live, live-pair}
+use Rattle.sound.proofs.KeyCounts.{pair-live, live-pair}
 use Rattle.edit.proofs.Finding.{find-live, found-only}
 use Rattle.chronicle_map.proofs.Weights.{Weigh, weigh-in}
 

@@ -11,7 +11,7 @@ use Rattle.settings.specs.Block.{settingsOf}
 use Rattle.layout.specs.declared.Shape.{Shape}
 use Rattle.layout.specs.Frame.{shapeOf}
 use Rattle.entries.specs.declared.Live.{Live}
-use Rattle.upkeep.specs.Sound.{Pair, pairOf, pairsOf, SoundImage}
+use Rattle.sound.specs.Sound.{Pair, pairOf, pairsOf, SoundImage}
 use Rattle.image.specs.declared.Examined.{Examined}
 use Rattle.image.specs.Check.{countsOf}
 use Rattle.edit.specs.Edits.{find, noRoom, storeImage}

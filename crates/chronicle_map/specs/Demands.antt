@@ -20,7 +20,7 @@ use Rattle.entries.specs.Keys.{KeyFits}
 use Rattle.entries.specs.Stored.{keyOf, chunksFor}
 use Rattle.entries.specs.Live.{live}
 use Rattle.chunks.specs.Chunks.{covers}
-use Rattle.upkeep.specs.Sound.{Pair, ImageFits}
+use Rattle.sound.specs.Sound.{Pair, ImageFits}
 use Rattle.image.specs.declared.Counts.{Counts}
 use Rattle.image.specs.declared.Outcome.{Outcome}
 use Rattle.image.specs.declared.Outcome.the-variants as outcome

@@ -1,8 +1,8 @@
 -- One name that opens every definition, for cases that are computed: `unfolding everything`.
 use Prim.Native.Nat.{ℕ}
 use Rattle.probe.specs.Removal.{stays, shift, remove as Probe·remove}
-use Rattle.upkeep.specs.Sound.{pairsOf}
-use Rattle.upkeep.specs.Recount.{recount, settle, touched}
+use Rattle.sound.specs.Sound.{pairsOf}
+use Rattle.counters.specs.Recount.{recount, settle, touched}
 use Rattle.removal.specs.Removal.{removeAt}
 use Rattle.placement.specs.Runs.{fromLowest, clearFrom, lowestRun, runIn, firstRun, runFor}
 use Rattle.placement.specs.Placement.{written, slotted, placeAt}

@@ -9,7 +9,7 @@ ghost use mathlib.Core.Path.{_≡_};
 ghost use Prim.Native.Nat.{_≤_};
 ghost use lib.ListN.{length};
 ghost use Rattle.entries.specs.Keys.{KeyFits};
-ghost use Rattle.upkeep.specs.Sound.{SoundImage};
+ghost use Rattle.sound.specs.Sound.{SoundImage};
 ghost use Rattle.edit.specs.Edits.{find, noRoom};
 ghost use Rattle.edit.specs.Replaced.{Storable};
 ghost use Rattle.image.specs.Check.{check as Check·check};

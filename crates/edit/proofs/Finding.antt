@@ -28,8 +28,8 @@ use Rattle.search.specs.Rules.{keyAt, SlotsFit}
 use Rattle.search.proofs.Finding.{found-at, seekIn-lt}
 use Rattle.search.proofs.Landing.{seek-key, lands}
 use Rattle.search.proofs.Fitting.{never-both}
-use Rattle.upkeep.specs.Sound.{SoundImage}
-use Rattle.upkeep.proofs.Sound.{sound-image}
+use Rattle.sound.specs.Sound.{SoundImage}
+use Rattle.sound.proofs.Sound.{sound-image}
 use Rattle.edit.specs.Edits.{find}
 
 -- ---- what is found, and what it means that nothing is

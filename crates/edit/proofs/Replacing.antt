@@ -25,10 +25,10 @@ use Rattle.search.specs.declared.Found.{Found}
 use Rattle.search.specs.declared.Found.the-variants.{At, Absent}
 use Rattle.search.specs.Search.{search, ChainTiers}
 use Rattle.search.specs.Rules.{EntryFits}
-use Rattle.upkeep.specs.Sound.{SoundWith, SoundImage}
-use Rattle.upkeep.specs.Recount.{recount, settle, touched}
-use Rattle.upkeep.proofs.Sound.{sound-image}
-use Rattle.upkeep.proofs.Marked.{entry-inside, entry-long}
+use Rattle.sound.specs.Sound.{SoundWith, SoundImage}
+use Rattle.counters.specs.Recount.{recount, settle, touched}
+use Rattle.sound.proofs.Sound.{sound-image}
+use Rattle.sound.proofs.Marked.{entry-inside, entry-long}
 use Rattle.removal.specs.Removal.{removeAt}
 use Rattle.placement.specs.declared.Old.{Old}
 use Rattle.placement.specs.Placement.{placeAt}

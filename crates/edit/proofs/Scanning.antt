@@ -21,9 +21,9 @@ use Rattle.entries.specs.Stored.{chunksFor}
 use Rattle.entries.specs.Live.{live}
 use Rattle.entries.proofs.Hashes.{segment-lt}
 use Rattle.chunks.specs.Chunks.{clear}
-use Rattle.upkeep.specs.Sound.{SoundImage}
+use Rattle.sound.specs.Sound.{SoundImage}
 use Rattle.removal.specs.Removal.{removeEntry}
-use Rattle.upkeep.proofs.Sound.{sound-but}
+use Rattle.sound.proofs.Sound.{sound-but}
 use Rattle.removal.proofs.Removing.{removal-chain, removal-mark-in, removal-mark-out, removal-mark-other, removal-full, removal-full-other}
 use Rattle.placement.specs.declared.Old.{Old}
 use Rattle.placement.specs.declared.Run.{Run}

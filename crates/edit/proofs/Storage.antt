@@ -18,8 +18,8 @@ use Rattle.entries.specs.Keys.{segmentOfHash, segmentOf}
 use Rattle.entries.proofs.Sizes.{chunks-pos}
 use Rattle.entries.specs.Stored.{chunksFor}
 use Rattle.entries.proofs.Hashes.{segment-lt}
-use Rattle.upkeep.specs.Sound.{SoundWith, SoundImage, SoundBut}
-use Rattle.upkeep.specs.Recount.{settle, touched}
+use Rattle.sound.specs.Sound.{SoundWith, SoundImage, SoundBut}
+use Rattle.counters.specs.Recount.{settle, touched}
 use Rattle.placement.specs.declared.Old.{Old}
 use Rattle.placement.specs.declared.Run.{Run}
 use Rattle.placement.specs.declared.Run.the-variants.{At, Nowhere}

@@ -16,15 +16,16 @@ use Rattle.words.specs.Bytes.{Bytes, same}
 use Rattle.settings.specs.declared.Settings.{Settings}
 use Rattle.layout.specs.declared.Shape.{Shape}
 use Rattle.chains.specs.Chains.{chain, freeHead}
+use Rattle.chains.proofs.Chained.{IsChained}
 use Rattle.entries.specs.declared.Live.{Live}
 use Rattle.entries.specs.Keys.{segmentOf}
 use Rattle.entries.specs.Stored.{chunksFor}
 use Rattle.entries.proofs.Hashes.{segment-lt}
 use Rattle.chunks.specs.Chunks.{clear}
-use Rattle.upkeep.specs.Sound.{Pair, pairsOf, SoundImage, SoundBut}
-use Rattle.upkeep.specs.Recount.{touched}
-use Rattle.upkeep.proofs.Sound.{but-more}
-use Rattle.upkeep.proofs.Recounting.{IsChained, settle-sound, settle-pairs}
+use Rattle.sound.specs.Sound.{Pair, pairsOf, SoundImage, SoundBut}
+use Rattle.counters.specs.Recount.{touched}
+use Rattle.sound.proofs.Sound.{but-more}
+use Rattle.counters.proofs.Recounting.{settle-sound, settle-pairs}
 use Rattle.placement.specs.declared.Run.{Run}
 use Rattle.placement.specs.declared.Run.the-variants.{At, Nowhere}
 use Rattle.placement.specs.Runs.{runFor, fullIn}

@@ -13,16 +13,17 @@ use Rattle.words.specs.Bytes.{same}
 use Rattle.words.proofs.Bytes.{same-eq, same-false}
 use Rattle.layout.specs.declared.Shape.{Shape}
 use Rattle.chains.specs.Chains.{chain, freeHead}
+use Rattle.chains.proofs.Chained.{IsChained}
 use Rattle.entries.specs.declared.Live.{Live}
 use Rattle.entries.specs.Stored.{keyOf}
 use Rattle.entries.specs.Live.{slotAt, liveAt, live}
 use Rattle.entries.proofs.LiveLists.{in-live}
 use Rattle.search.specs.Rules.{keyAt}
-use Rattle.upkeep.specs.Sound.{Pair, pairOf, pairsOf, SoundImage, SoundBut}
-use Rattle.upkeep.specs.Recount.{settle}
-use Rattle.upkeep.proofs.Sound.{sound-but}
-use Rattle.upkeep.proofs.Recounting.{IsChained, settle-sound, settle-pairs}
-use Rattle.upkeep.proofs.KeyCounts.{withKey, keys-once, pair-live, live-pair}
+use Rattle.sound.specs.Sound.{Pair, pairOf, pairsOf, SoundImage, SoundBut}
+use Rattle.counters.specs.Recount.{settle}
+use Rattle.sound.proofs.Sound.{sound-but}
+use Rattle.counters.proofs.Recounting.{settle-sound, settle-pairs}
+use Rattle.sound.proofs.KeyCounts.{withKey, keys-once, pair-live, live-pair}
 use Rattle.removal.specs.Removal.{removeEntry}
 use Rattle.removal.proofs.Removing.{removal-sound, removal-tier, removal-pairs, removal-head}
 use Rattle.edit.specs.Edits.{find, withoutEntry, without, removedEntry, removeImage}

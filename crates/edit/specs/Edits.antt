@@ -13,7 +13,7 @@ use Rattle.entries.specs.declared.Live.{Live}
 use Rattle.entries.specs.Keys.{segmentOf}
 use Rattle.entries.specs.Stored.{keyOf, chunksFor}
 use Rattle.entries.specs.Live.{live}
-use Rattle.upkeep.specs.Recount.{settle, touched}
+use Rattle.counters.specs.Recount.{settle, touched}
 use Rattle.removal.specs.Removal.{removeEntry}
 use Rattle.placement.specs.declared.Run.{Run}
 use Rattle.placement.specs.declared.Run.the-variants.{At, Nowhere}

@@ -13,8 +13,8 @@ use Rattle.layout.specs.Frame.{Framed}
 use Rattle.entries.specs.declared.Live.{Live}
 use Rattle.entries.specs.Keys.{KeyFits}
 use Rattle.entries.specs.Stored.{chunksFor}
-use Rattle.upkeep.specs.Sound.{SoundImage}
-use Rattle.upkeep.specs.Recount.{settle, touched}
+use Rattle.sound.specs.Sound.{SoundImage}
+use Rattle.counters.specs.Recount.{settle, touched}
 use Rattle.removal.specs.Removal.{removeAt}
 use Rattle.placement.specs.declared.Old.{Old}
 use Rattle.placement.specs.Asking.{CanPlace}

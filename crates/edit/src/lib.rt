@@ -6,7 +6,7 @@ use search::Found;
 ghost use mathlib.Core.Path.{_≡_};
 ghost use lib.ListN.{length};
 ghost use Rattle.layout.specs.Frame.{Framed};
-ghost use Rattle.upkeep.specs.Sound.{SoundImage};
+ghost use Rattle.sound.specs.Sound.{SoundImage};
 ghost use Rattle.edit.specs.Edits.{find, removeImage};
 ghost use Rattle.edit.specs.Replaced.{oldOf, withoutOld, replacedOld, extendedOld, OldFits, isThere, Stores, Storable, Replaces, Extends};
 
@@ -54,7 +54,7 @@ pub fn remove(z: Shape, img: &mut [u8], key: &[u8]) -> bool
         return false;
     }
     take_out(z, img, old);
-    upkeep::recount(z, img, old.tier);
+    counters::recount(z, img, old.tier);
     true
 }
 
@@ -65,7 +65,7 @@ fn replace(z: Shape, img: &mut [u8], old: Old, t: usize, c: usize, key: &[u8], v
 {
     take_out(z, img, old);
     placement::place::place_at(z, img, t, c, key, value);
-    upkeep::settle(z, img, t, old.tier);
+    counters::settle(z, img, t, old.tier);
 }
 
 // The same where the first free tier t joins segment s's chain.
@@ -76,7 +76,7 @@ fn extend(z: Shape, img: &mut [u8], old: Old, s: usize, t: usize, key: &[u8], va
     take_out(z, img, old);
     joining::join(z, img, s);
     placement::place::place_at(z, img, t, 0, key, value);
-    upkeep::settle(z, img, t, old.tier);
+    counters::settle(z, img, t, old.tier);
 }
 
 // Stores a record under a key; whether it found room. Nothing is written before that is known.

@@ -18,7 +18,7 @@ use Rattle.chains.proofs.Tiers.{chain-tiers}
 use Rattle.search.specs.Search.{ChainTiers}
 use Rattle.search.specs.Rules.{EntriesFit, entriesFit?}
 use Rattle.chunks.specs.Chunks.{ChunksFit, chunksFit?}
-use Rattle.upkeep.specs.Sound.{ImageFits}
+use Rattle.sound.specs.Sound.{ImageFits}
 use Rattle.image.specs.declared.Stage.{Stage}
 use Rattle.image.specs.declared.Counts.{Counts}
 use Rattle.image.specs.declared.Examined.the-variants.{Ready, Refused}

@@ -16,11 +16,11 @@ use Rattle.chains.specs.Chains.{chain, freeHead, freeChain}
 use Rattle.entries.specs.Live.{slotAt, fullSlots}
 use Rattle.search.specs.Rules.{keyAt, KeysOnce, EntriesFit}
 use Rattle.chunks.specs.Chunks.{MarksFit, CountersFit, FreeTierFits}
-use Rattle.upkeep.specs.Sound.{Pair, pairsOf, SoundBut}
+use Rattle.sound.specs.Sound.{Pair, pairsOf, SoundBut}
 use Rattle.joining.specs.Joining.{lastTier, join}
 use Rattle.chains.proofs.Tiers.{chain-tiers}
-use Rattle.upkeep.proofs.AgreeTier.{same-tier-fits, same-marks, same-counters, same-free}
-use Rattle.upkeep.proofs.Sound.{sound-image}
+use Rattle.sound.proofs.AgreeTier.{same-tier-fits, same-marks, same-counters, same-free}
+use Rattle.sound.proofs.Sound.{sound-image}
 use Rattle.joining.proofs.Ends.{join-joins}
 use Rattle.joining.proofs.Chains.{others-free, longer-chain, other-chain, shorter-free}
 use Rattle.joining.proofs.Fitting.{chains-again}

@@ -13,7 +13,7 @@ use Rattle.layout.specs.Frame.{Image}
 use Rattle.layout.proofs.Places.{global-lt, get-puts-other, length-puts, kind, by-kind, shared-in, shared-kind, shared-never, shared-tiers}
 use Rattle.layout.proofs.Marks.{mark-get}
 use Rattle.layout.proofs.Chunks.{cut-chunks}
-use Rattle.upkeep.proofs.AgreeTier.{SameTier}
+use Rattle.sound.proofs.AgreeTier.{SameTier}
 
 -- tier t joins after tier l, as the tier at place n of segment s's chain; a becomes the first free tier, and b tiers are used
 abbrev pub joinWrites : Shape → (s t l a b n : ℕ) → List Write

@@ -17,14 +17,14 @@ use Rattle.entries.specs.Live.{slotAt, fullSlots, liveIn}
 use Rattle.search.specs.Search.{slotsOf}
 use Rattle.search.specs.Rules.{keyAt, TierSlotsFit}
 use Rattle.chunks.specs.Chunks.{covers, FreeTierFits}
-use Rattle.upkeep.specs.Sound.{Pair, pairsOf, SoundBut}
+use Rattle.sound.specs.Sound.{Pair, pairsOf, SoundBut}
 use Rattle.joining.specs.Joining.{lastTier}
-use Rattle.upkeep.proofs.Values.{ifFull, weigh}
+use Rattle.sound.proofs.Values.{ifFull, weigh}
 use Rattle.lists.proofs.Totals.{total-same}
-use Rattle.upkeep.proofs.Sums.{full-total, pairs-total}
+use Rattle.sound.proofs.Sums.{full-total, pairs-total}
 use Rattle.chains.proofs.Chained.{chained-in}
 use Rattle.chains.proofs.Tiers.{chain-tiers}
-use Rattle.upkeep.proofs.AgreeTier.{SameTier, Moved, entry-moves, same-weigh}
+use Rattle.sound.proofs.AgreeTier.{SameTier, Moved, entry-moves, same-weigh}
 use Rattle.joining.proofs.Ends.{new-in, new-tier}
 use Rattle.joining.proofs.Chains.{other-chain, longer-chain}
 use Rattle.joining.proofs.Fitting.{chained-longer}

@@ -12,7 +12,7 @@ use Rattle.layout.specs.Places.{Counter, entryCount, lowestFree, nextTier, next
 use Rattle.layout.specs.Frame.{Image}
 use Rattle.layout.proofs.Places.{written, get-same, get-puts-other, puts-append, image-puts, length-puts, kind, by-kind, shared-in, shared-kind, shared-never, shared-tiers, shared-wide}
 use Rattle.chains.specs.Chains.{nextOf, freeHead}
-use Rattle.upkeep.proofs.AgreeTier.{SameTier, SameCounters}
+use Rattle.sound.proofs.AgreeTier.{SameTier, SameCounters}
 use Rattle.joining.proofs.Kept.{joinWrites, next-kept, counter-kept, shared-kept, same-tiers, global-kept}
 
 -- image img′ is img with that done

@@ -9,7 +9,7 @@ use lib.ListN.{length}
 use lib.IntN.{ℤ, ℤ-discrete}
 use Rattle.lists.specs.Cases.{same-or}
 use Rattle.words.specs.Bytes.{Bytes}
-use Rattle.upkeep.specs.Sound.{Pair}
+use Rattle.sound.specs.Sound.{Pair}
 use Rattle.image.specs.declared.Verdict.{Verdict}
 use Rattle.image.specs.Check.{check}
 use Rattle.chronicle_map.specs.Calls.{lookup, store, answerNumber}

@@ -19,11 +19,11 @@ use Rattle.entries.specs.Keys.{KeyFits, segmentOf, lookupKey, slotKey, slotChun
 use Rattle.entries.specs.Stored.{entryBytes, chunksFor}
 use Rattle.entries.specs.Live.{fullSlots}
 use Rattle.entries.proofs.Hashes.{lookup-lt, lookup-full}
-use Rattle.upkeep.specs.Sound.{SoundBut}
+use Rattle.sound.specs.Sound.{SoundBut}
 use Rattle.placement.specs.Asking.{CanPlace}
 use Rattle.placement.proofs.Written.{some-chunks as Written·some-chunks, chunk-lt, entry-fits, entry-room as Written·entry-room}
 use Rattle.chains.proofs.Tiers.{chain-tiers}
-use Rattle.upkeep.proofs.Sound.{sound-image}
+use Rattle.sound.proofs.Sound.{sound-image}
 use Rattle.entries.proofs.Slots.{slotKey-with, slotWith-fits, slotWith-full, slotChunk-with, slotRest-with}
 use Rattle.lists.specs.Quantify.{Every}
 use Rattle.search.specs.Asking.{Lacks}

@@ -27,8 +27,8 @@ use Rattle.search.specs.Rules.{SomeEmpty, TierSlotsFit}
 use Rattle.search.proofs.Slots.{slots-lawful}
 use Rattle.search.proofs.Landing.{good}
 use Rattle.placement.specs.Placement.{written, slotted}
-use Rattle.upkeep.proofs.Values.{ifFull, full-is, empty-is}
-use Rattle.upkeep.proofs.Sums.{full-total, table-same}
+use Rattle.sound.proofs.Values.{ifFull, full-is, empty-is}
+use Rattle.sound.proofs.Sums.{full-total, table-same}
 use Rattle.placement.proofs.Before.{numberFor, Places, image, is-tier, entry-room, entry-bytes, number-full, number-fits, number-key}
 use Rattle.placement.proofs.Writing.{filled, Writes}
 use Rattle.placement.proofs.Filling.{wrote-image, wrote-slot}

@@ -29,9 +29,9 @@ use Rattle.entries.proofs.Whole.{WholeAt, whole-sound, whole-complete, value-en
 use Rattle.search.specs.Search.{slotsOf}
 use Rattle.search.specs.Rules.{IsWhole, EntryFits}
 use Rattle.chunks.specs.Chunks.{covers}
-use Rattle.upkeep.proofs.Values.{entryFor, pairFor, ifFull, full-is}
+use Rattle.sound.proofs.Values.{entryFor, pairFor, ifFull, full-is}
 use Rattle.lists.proofs.Totals.{howMany-total}
-use Rattle.upkeep.proofs.Sums.{liveIn-total}
+use Rattle.sound.proofs.Sums.{liveIn-total}
 use Rattle.placement.proofs.Before.{numberFor, Places, some-chunks, entry-end}
 use Rattle.placement.proofs.Filling.{bytes-old}
 use Rattle.placement.proofs.Inserting.{place, after, writes, was-fitting, place-in}

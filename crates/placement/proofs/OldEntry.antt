@@ -10,7 +10,7 @@ use borrow.Author.Tests.{eqb-true, eqb-false, eq-eqb, ne-eqb, le-leb, lt-leb, lt
 use Rattle.lists.specs.Cases.{by-test}
 use Rattle.layout.specs.declared.Shape.{Shape}
 use Rattle.chunks.specs.Chunks.{clear}
-use Rattle.upkeep.proofs.CountRoom.{full-few}
+use Rattle.counters.proofs.CountRoom.{full-few}
 use Rattle.placement.specs.declared.Old.{Old}
 use Rattle.placement.specs.Runs.{fullIn, fullBut, clearBut}
 

@@ -6,11 +6,11 @@ use native.Mathlib.Omega.{arith}
 use Rattle.lists.specs.Lists.{total}
 use Rattle.layout.specs.declared.Shape.{Shape}
 use Rattle.chains.specs.Chains.{chain}
-use Rattle.upkeep.specs.Sound.{Pair, pairsOf, SoundBut}
+use Rattle.sound.specs.Sound.{Pair, pairsOf, SoundBut}
 use Rattle.placement.specs.Placement.{placeAt}
-use Rattle.upkeep.proofs.Values.{pairFor, weigh}
-use Rattle.upkeep.proofs.Replaced.{OnlyTier, tier-replaced, pairs-replaced}
-use Rattle.upkeep.proofs.AgreeChains.{same-chain}
+use Rattle.sound.proofs.Values.{pairFor, weigh}
+use Rattle.sound.proofs.Replaced.{OnlyTier, tier-replaced, pairs-replaced}
+use Rattle.sound.proofs.AgreeChains.{same-chain}
 pub use Rattle.placement.proofs.Before.{Places}
 use Rattle.placement.proofs.Before.{numberFor}
 use Rattle.placement.proofs.Writing.{filled-only}

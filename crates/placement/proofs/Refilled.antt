@@ -21,9 +21,9 @@ use Rattle.entries.proofs.Whole.{entryHere, stored-whole}
 use Rattle.search.specs.Rules.{Hashed, keyAt, EntryFits, TierSlotsFit}
 use Rattle.search.proofs.Fitting.{entry-right}
 use Rattle.chunks.specs.Chunks.{covers}
-use Rattle.upkeep.specs.Sound.{Pair}
-use Rattle.upkeep.proofs.Values.{entryFor, pairFor}
-use Rattle.upkeep.proofs.Replaced.{TierAgain}
+use Rattle.sound.specs.Sound.{Pair}
+use Rattle.sound.proofs.Values.{entryFor, pairFor}
+use Rattle.sound.proofs.Replaced.{TierAgain}
 use Rattle.placement.proofs.Before.{numberFor, Places, number-fits, number-key, number-chunk, number-rest, entry-in-chunks}
 use Rattle.placement.proofs.Filling.{slot-new, slot-old, mark-in, mark-out, bytes-new}
 use Rattle.placement.proofs.Inserting.{place, after, writes, place-in, after-good, after-empty, after-total}

@@ -15,8 +15,8 @@ use Rattle.layout.specs.Frame.{Framed, Image}
 use Rattle.layout.proofs.Places.{length-put, image-put, get-other, by-kind, shared-in, shared-slot, shared-free, shared-byte}
 use Rattle.layout.proofs.Marks.{NoFree, length-putMarks, image-putMarks, mark-put-other, get-putMarks-other, mark-putMarks-tier}
 use Rattle.layout.proofs.Chunks.{NoByte, image-sets, get-sets-other, mark-sets, cut-put-chunks, cut-putMarks-chunks, cut-sets-chunks}
-use Rattle.upkeep.proofs.AgreeTier.{SameBytes}
-use Rattle.upkeep.proofs.Replaced.{OnlyTier}
+use Rattle.sound.proofs.AgreeTier.{SameBytes}
+use Rattle.sound.proofs.Replaced.{OnlyTier}
 
 -- the run marked, bytes written into it and one slot filled
 unfoldable pub filled : Shape → List ℕ → ℕ → ℕ → ℕ → List ℕ → ℕ → ℕ → List ℕ

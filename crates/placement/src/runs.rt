@@ -31,7 +31,7 @@ fn full_but(z: Shape, img: &[u8], old: Old, t: usize) -> usize
     requires { ⌜ Framed z (length (now img)) × IsTier z t ⌝ }
     ensures { λ r. ⌜ r ≡ fullBut z (now (img .entry)) old t ⌝ }
 {
-    let full = upkeep::full_slots(z, img, t);
+    let full = counters::full_slots(z, img, t);
     if t == old.tier {
         if full == 0 {
             return 0;

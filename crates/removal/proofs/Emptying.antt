@@ -24,7 +24,7 @@ use Rattle.entries.specs.Keys.{start, slotKey}
 use Rattle.entries.specs.Live.{slotAt}
 use Rattle.search.specs.Search.{slotsOf}
 use Rattle.removal.specs.Removal.{removeAt}
-use Rattle.upkeep.proofs.Framing.{framed-again}
+use Rattle.sound.proofs.Framing.{framed-again}
 
 -- how far the start of v is from the hole h, where the code has its parts
 pub start-distance : (st : Settings) (v h : ℕ) {k x d : ℕ} → k ≡ slotKey st v → x ≡ start st k → d ≡ dist (st .slots) h x

@@ -17,8 +17,8 @@ use Rattle.entries.specs.Live.{slotAt, chunkOf}
 use Rattle.search.specs.Search.{slotsOf}
 use Rattle.search.specs.Rules.{chunksAt, SomeEmpty, TierSlotsFit}
 use Rattle.search.proofs.Landing.{good}
-use Rattle.upkeep.proofs.Values.{ifFull, full-is, empty-is}
-use Rattle.upkeep.proofs.Sums.{table-same}
+use Rattle.sound.proofs.Values.{ifFull, full-is, empty-is}
+use Rattle.sound.proofs.Sums.{table-same}
 use Rattle.search.proofs.Slots.{slots-lawful}
 use Rattle.removal.specs.Removal.{removeAt}
 use Rattle.removal.proofs.Slots.{cleared, cleared-image, cleared-slot}

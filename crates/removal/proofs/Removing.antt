@@ -12,20 +12,20 @@ use Rattle.layout.specs.Tiers.{IsTier}
 use Rattle.layout.specs.Places.{mark}
 use Rattle.chains.specs.Chains.{chain, freeHead}
 use Rattle.probe.specs.Table.{slotTotal}
+use Rattle.chains.proofs.Chained.{IsChained}
 use Rattle.entries.specs.declared.Live.{Live}
 use Rattle.entries.specs.Live.{slotAt, entryAt, fullSlots, liveAt, live}
 use Rattle.entries.proofs.LiveLists.{IsLive, live-in}
 use Rattle.search.specs.Search.{slotsOf}
-use Rattle.upkeep.specs.Sound.{Pair, pairOf, pairsOf, SoundBut}
+use Rattle.sound.specs.Sound.{Pair, pairOf, pairsOf, SoundBut}
 use Rattle.removal.specs.Removal.{removeEntry}
-use Rattle.upkeep.proofs.Values.{pairFor, ifFull, weigh}
-use Rattle.upkeep.proofs.Sums.{full-total, table-same}
+use Rattle.sound.proofs.Values.{pairFor, ifFull, weigh}
+use Rattle.sound.proofs.Sums.{full-total, table-same}
 use Rattle.chains.proofs.Tiers.{chain-tiers}
-use Rattle.upkeep.proofs.AgreeTier.{same-full}
-use Rattle.upkeep.proofs.AgreeChains.{same-chain}
-use Rattle.upkeep.proofs.Replaced.{OnlyTier, tier-replaced, pairs-replaced}
-use Rattle.upkeep.proofs.Sound.{sound-image}
-use Rattle.upkeep.proofs.Recounting.{IsChained}
+use Rattle.sound.proofs.AgreeTier.{same-full}
+use Rattle.sound.proofs.AgreeChains.{same-chain}
+use Rattle.sound.proofs.Replaced.{OnlyTier, tier-replaced, pairs-replaced}
+use Rattle.sound.proofs.Sound.{sound-image}
 use Rattle.removal.proofs.Slots.{removeAt-only}
 use Rattle.removal.proofs.Numbers.{Removable, range-in, sums}
 use Rattle.removal.proofs.Tier.{Stood, was, mark-in, mark-out, again}

@@ -19,8 +19,8 @@ use Rattle.entries.specs.Live.{slotAt}
 use Rattle.search.specs.Search.{slotsOf}
 use Rattle.search.proofs.Slots.{slots-lawful}
 use Rattle.removal.specs.Removal.{removeAt}
-use Rattle.upkeep.proofs.AgreeTier.{SameBytes}
-use Rattle.upkeep.proofs.Replaced.{OnlyTier}
+use Rattle.sound.proofs.AgreeTier.{SameBytes}
+use Rattle.sound.proofs.Replaced.{OnlyTier}
 
 -- a place that is no slot of tier t
 abbrev pub NoSlot : ℕ → Place → Type 0

@@ -23,11 +23,11 @@ use Rattle.search.specs.Search.{slotsOf}
 use Rattle.search.specs.Rules.{keyAt, KeysOnce, TierSlotsFit}
 use Rattle.chunks.specs.Chunks.{covers, MarksFit}
 use Rattle.removal.specs.Removal.{removeAt}
-use Rattle.upkeep.proofs.Values.{entryFor, ifFull}
+use Rattle.sound.proofs.Values.{entryFor, ifFull}
 use Rattle.lists.proofs.Totals.{howMany-total}
-use Rattle.upkeep.proofs.Sums.{liveIn-total}
-use Rattle.upkeep.proofs.AgreeTier.{SameBytes, Moved, same-stored, entry-moves}
-use Rattle.upkeep.proofs.Replaced.{TierAgain}
+use Rattle.sound.proofs.Sums.{liveIn-total}
+use Rattle.sound.proofs.AgreeTier.{SameBytes, Moved, same-stored, entry-moves}
+use Rattle.sound.proofs.Replaced.{TierAgain}
 use Rattle.removal.proofs.Slots.{cleared, stays, same-bytes}
 use Rattle.removal.proofs.Numbers.{Removable, range-in, sums, new-empty, new-good, stood, stood-once}
 

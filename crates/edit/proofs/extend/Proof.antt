@@ -1,5 +1,5 @@
 use mathlib.Core.Path.{_∙_}
-use Rattle.upkeep.proofs.Framing.{framed-again}
+use Rattle.sound.proofs.Framing.{framed-again}
 use Rattle.edit.proofs.Replacing.{extended-is}
 use borrow.Author.Needs.{needs}
 use Rattle.edit.proofs.extend.Statement.{statement}

@@ -1,4 +1,4 @@
-use Rattle.upkeep.proofs.Framing.{framed-again}
+use Rattle.sound.proofs.Framing.{framed-again}
 use Rattle.edit.proofs.Replacing.{sound-framed, old-fits, removes-none, removes-some}
 use borrow.Author.Needs.{needs}
 use Rattle.edit.proofs.remove.Statement.{statement}

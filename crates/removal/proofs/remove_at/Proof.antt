@@ -1,5 +1,5 @@
 use borrow.Author.Needs.{needs}
-use Rattle.upkeep.proofs.Framing.{framed-again}
+use Rattle.sound.proofs.Framing.{framed-again}
 use Rattle.removal.proofs.Emptying.{removed-at}
 use Rattle.removal.proofs.remove_at.Statement.{statement}
 use Rattle.removal.proofs.remove_at.Tie as tie

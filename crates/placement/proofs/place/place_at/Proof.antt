@@ -1,4 +1,4 @@
-use Rattle.upkeep.proofs.Framing.{framed-again}
+use Rattle.sound.proofs.Framing.{framed-again}
 use Rattle.placement.proofs.Written.{chunk-lt, placed-is, lookup-made, firstEmpty-lt}
 use native.Mathlib.Omega.{arith}
 use borrow.Author.Needs.{needs}

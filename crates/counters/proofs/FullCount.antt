@@ -17,7 +17,7 @@ use Rattle.layout.specs.declared.Shape.{Shape}
 use Rattle.layout.specs.Places.{put, puts, countPlace, lowPlace}
 use Rattle.entries.specs.Live.{slotAt, fullSlots}
 use Rattle.chunks.specs.Chunks.{lowestClear}
-use Rattle.upkeep.specs.Recount.{recount, settle, touched}
+use Rattle.counters.specs.Recount.{recount, settle, touched}
 
 module _ (z : Shape) (img : List ℕ) (t : ℕ) where
   open Shape z using (settings)

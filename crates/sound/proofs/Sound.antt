@@ -7,7 +7,7 @@ use Rattle.layout.specs.declared.Shape.{Shape}
 use Rattle.layout.specs.Frame.{FrameFits, Framed, Image}
 use Rattle.layout.proofs.Frames.{framed}
 use Rattle.chunks.specs.Chunks.{ChunksFit}
-use Rattle.upkeep.specs.Sound.{ChunksFitBut, SoundWith, SoundImage, SoundBut}
+use Rattle.sound.specs.Sound.{ChunksFitBut, SoundWith, SoundImage, SoundBut}
 
 module _ (z : Shape) (img : List ℕ) where
   pub sound-image : {C : Type 0} → SoundWith C z img → Image z img

@@ -33,9 +33,9 @@ use Rattle.probe.specs.Ring.{dist}
 use Rattle.search.specs.Rules.{IsWhole, keyAt, EntryFits, SomeEmpty, SlotsFit, TierSlotsFit}
 use Rattle.chunks.specs.Chunks.{covers, clear, lowestClear, MarksFit, CountersFit, FreeTierFits}
 use Rattle.chunks.proofs.LowMark.{low-mark-same}
-use Rattle.upkeep.specs.Sound.{Pair}
-use Rattle.upkeep.proofs.Values.{entryFor, pairFor, weigh}
-use Rattle.upkeep.proofs.Sums.{table-same}
+use Rattle.sound.specs.Sound.{Pair}
+use Rattle.sound.proofs.Values.{entryFor, pairFor, weigh}
+use Rattle.sound.proofs.Sums.{table-same}
 use Rattle.lists.proofs.SameLists.{same-those, same-first, same-map}
 
 -- on the chunks of tier u

@@ -3,9 +3,9 @@ use mathlib.Core.Path.{sym, _∙_}
 use mathlib.Core.Logic.{⊎-elim}
 use borrow.Author.Needs.{needs}
 use Prim.Native.Nat.{_-_}
-use Rattle.upkeep.proofs.FullCount.{Counted, counted-starts, counted-few, counted-full, counted-empty, counted-ends}
-use Rattle.upkeep.proofs.full_slots.Statement.{statement}
-use Rattle.upkeep.proofs.full_slots.Tie as tie
+use Rattle.counters.proofs.FullCount.{Counted, counted-starts, counted-few, counted-full, counted-empty, counted-ends}
+use Rattle.counters.proofs.full_slots.Statement.{statement}
+use Rattle.counters.proofs.full_slots.Tie as tie
 
 abbrev Inv-loop : tie.InvT-loop
 Inv-loop z img t n₀ j₀ n j = Counted z img t n j

@@ -1,8 +1,8 @@
 use borrow.Author.Needs.{needs}
-use Rattle.upkeep.proofs.FullCount.{settled-alone, settled-same, settled-both}
-use Rattle.upkeep.proofs.Framing.{framed-again}
-use Rattle.upkeep.proofs.settle.Statement.{statement}
-use Rattle.upkeep.proofs.settle.Tie as tie
+use Rattle.counters.proofs.FullCount.{settled-alone, settled-same, settled-both}
+use Rattle.sound.proofs.Framing.{framed-again}
+use Rattle.counters.proofs.settle.Statement.{statement}
+use Rattle.counters.proofs.settle.Tie as tie
 
 recount-requires : tie.Need-recount-requires
 recount-requires c κs = search needs

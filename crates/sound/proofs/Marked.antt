@@ -32,13 +32,13 @@ use Rattle.chunks.specs.Chunks.{covers, markedIn, markedChunks}
 use Rattle.chunks.specs.Counting.{chunksOfEntry, chunksOfAll}
 use Rattle.chunks.proofs.Covering.{covered-by, range-ends}
 use Rattle.chunks.proofs.Marks.{markedBelow, marked-none, marked-more, marked-all}
-use Rattle.upkeep.specs.Sound.{Pair, pairsOf, SoundImage}
-use Rattle.upkeep.proofs.Values.{pairFor, weigh}
+use Rattle.sound.specs.Sound.{Pair, pairsOf, SoundImage}
+use Rattle.sound.proofs.Values.{pairFor, weigh}
 use Rattle.lists.proofs.Totals.{total-same}
-use Rattle.upkeep.proofs.Sums.{liveIn-total, pairs-total}
+use Rattle.sound.proofs.Sums.{liveIn-total, pairs-total}
 use Rattle.chains.proofs.Chained.{chained-in}
 use Rattle.chains.proofs.Tiers.{chain-tiers}
-use Rattle.upkeep.proofs.Sound.{sound-image}
+use Rattle.sound.proofs.Sound.{sound-image}
 
 -- ---- the chunks of several entries
 

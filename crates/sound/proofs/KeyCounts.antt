@@ -20,10 +20,10 @@ use Rattle.entries.specs.Keys.{segmentOf}
 use Rattle.entries.specs.Live.{slotAt, entryAt, live}
 use Rattle.search.specs.Search.{slotsOf}
 use Rattle.search.specs.Rules.{keyAt}
-use Rattle.upkeep.specs.Sound.{Pair, pairOf, pairsOf, SoundImage}
-use Rattle.upkeep.proofs.Values.{pairFor, ifFull, weigh}
+use Rattle.sound.specs.Sound.{Pair, pairOf, pairsOf, SoundImage}
+use Rattle.sound.proofs.Values.{pairFor, ifFull, weigh}
 use Rattle.lists.proofs.Totals.{total-change, total-zero, total-some}
-use Rattle.upkeep.proofs.Sums.{pairs-total}
+use Rattle.sound.proofs.Sums.{pairs-total}
 use Rattle.chains.proofs.Chained.{chained-once, chained-in}
 
 -- 1 for a pair with this key, 0 for another

@@ -18,17 +18,18 @@ use Rattle.layout.proofs.Places.{written, get-same, get-other, get-puts-other, 
 use Rattle.layout.proofs.Marks.{mark-get}
 use Rattle.layout.proofs.Chunks.{cut-chunks}
 use Rattle.chains.specs.Chains.{chain}
+use Rattle.chains.proofs.Chained.{IsChained}
 use Rattle.entries.specs.Live.{fullSlots}
 use Rattle.chunks.specs.Chunks.{lowestClear, CountersFit}
 use Rattle.chunks.proofs.LowMark.{low-mark-exact}
-use Rattle.upkeep.specs.Sound.{Pair, pairsOf, SoundImage, SoundBut}
-use Rattle.upkeep.specs.Recount.{recount, settle}
+use Rattle.sound.specs.Sound.{Pair, pairsOf, SoundImage, SoundBut}
+use Rattle.counters.specs.Recount.{recount, settle}
 use Rattle.chains.proofs.Tiers.{chain-tiers}
-use Rattle.upkeep.proofs.Sound.{sound-image, but-sound}
-use Rattle.upkeep.proofs.CountRoom.{count-room, low-room, full-few, lowest-few}
-use Rattle.upkeep.proofs.AgreeTier.{SameTier, same-full, same-lowest, same-weigh}
-use Rattle.upkeep.proofs.AgreeChains.{SameChains, same-chain}
-use Rattle.upkeep.proofs.Replaced.{OnlyTier, tier-stays, tier-replaced, pairs-replaced}
+use Rattle.sound.proofs.Sound.{sound-image, but-sound}
+use Rattle.counters.proofs.CountRoom.{count-room, low-room, full-few, lowest-few}
+use Rattle.sound.proofs.AgreeTier.{SameTier, same-full, same-lowest, same-weigh}
+use Rattle.sound.proofs.AgreeChains.{SameChains, same-chain}
+use Rattle.sound.proofs.Replaced.{OnlyTier, tier-stays, tier-replaced, pairs-replaced}
 
 -- ---- what the two writes keep
 
@@ -192,10 +193,6 @@ module _ (z : Shape) (img : List ℕ) (s t : ℕ) (hs : s < z .settings .segment
       )
 
 -- ---- the counters of several tiers
-
--- t stands in some segment's chain
-abbrev pub IsChained : Shape → List ℕ → ℕ → Type 0
-IsChained z img t = (s : ℕ) × ((s < z .settings .segments) × List·Memᴰ t (chain z img s))
 
 module _ (z : Shape) where
   recount-chained : (img : List ℕ) (t : ℕ) {but : List ℕ} → SoundBut z img (t ∷ but) → IsChained z img t → (u : ℕ) → IsChained z img u

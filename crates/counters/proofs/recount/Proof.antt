@@ -1,8 +1,8 @@
 use borrow.Author.Needs.{needs}
-use Rattle.upkeep.proofs.FullCount.{recounted}
-use Rattle.upkeep.proofs.Framing.{framed-again}
-use Rattle.upkeep.proofs.recount.Statement.{statement}
-use Rattle.upkeep.proofs.recount.Tie as tie
+use Rattle.counters.proofs.FullCount.{recounted}
+use Rattle.sound.proofs.Framing.{framed-again}
+use Rattle.counters.proofs.recount.Statement.{statement}
+use Rattle.counters.proofs.recount.Tie as tie
 
 full-slots-requires : tie.Need-full-slots-requires
 full-slots-requires c κs = search needs

@@ -1,0 +1,4 @@
+-- A tier that is recounted.
+pub mod CountRoom
+pub mod Recounting
+pub mod FullCount

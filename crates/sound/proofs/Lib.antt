@@ -1,0 +1,10 @@
+-- What edits keep: laws of agreement, of sums over the live entries, of a tier that is changed.
+pub mod Values
+pub mod Sums
+pub mod AgreeTier
+pub mod AgreeChains
+pub mod Sound
+pub mod Replaced
+pub mod KeyCounts
+pub mod Marked
+pub mod Framing

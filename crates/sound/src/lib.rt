@@ -1,0 +1,1 @@
+// What a sound image is: specs and laws alone.
