@@ -10,3 +10,4 @@ pub mod Along
 pub mod Linked
 pub mod Chained
 pub mod Counts
+pub mod AgreeChains

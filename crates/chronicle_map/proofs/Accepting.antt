@@ -9,7 +9,8 @@ use Rattle.settings.specs.Block.{BlockFits, settingsOf}
 use Rattle.layout.specs.declared.Shape.{Shape}
 use Rattle.layout.specs.Frame.{shapeOf}
 use Rattle.layout.proofs.Frames.{shape-settings}
-use Rattle.sound.specs.Sound.{pairsOf, SoundImage}
+use Rattle.entries.specs.Pairs.{pairsOf}
+use Rattle.sound.specs.Sound.{SoundImage}
 use Rattle.image.specs.declared.Counts.{Counts}
 use Rattle.image.specs.declared.Outcome.the-variants as outcome
 use Rattle.image.specs.declared.Verdict.{Verdict}

@@ -21,7 +21,8 @@ use Rattle.entries.specs.declared.Live.{Live}
 use Rattle.entries.specs.Keys.{KeyFits}
 use Rattle.entries.specs.Stored.{keyOf}
 use Rattle.entries.specs.Live.{live}
-use Rattle.sound.specs.Sound.{Pair, pairOf, pairsOf, SoundImage, ImageFits}
+use Rattle.entries.specs.Pairs.{Pair, pairOf, pairsOf}
+use Rattle.sound.specs.Sound.{SoundImage, ImageFits}
 use Rattle.image.specs.declared.Counts.{Counts}
 use Rattle.image.specs.declared.Examined.the-variants.{Ready}
 use Rattle.image.specs.Check.{countsOf, examine, verdictOf, check}
@@ -31,7 +32,6 @@ use Rattle.edit.proofs.Finding.{found-only}
 use Rattle.edit.proofs.Replacing.{live-key-fits}
 use Rattle.entries.proofs.LiveLists.{live-in}
 use Rattle.chronicle_map.specs.declared.Located.the-variants as looked
-use Rattle.chronicle_map.specs.declared.Answer.the-variants as answer
 use Rattle.chronicle_map.specs.Asked.{aKey, anEntry, GivenKeyFits, givenKeyFits?, GivenValueFits, givenValueFits?, afterValue, afterKey}
 use Rattle.chronicle_map.specs.Calls.{fromFind, lookedUp, lookup, answerNumber, remove, store}
 use Rattle.chronicle_map.specs.History.{Said, stores, removes, says, leaves, row10, Map, hasKey, mapOf, mapGet, mapDrop, mapSet, mapRemove, mapStore, unlessValue, unlessKey, unless, recall}

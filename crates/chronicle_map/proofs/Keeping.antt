@@ -19,7 +19,7 @@ use Rattle.chains.specs.Chains.{chain, chained}
 use Rattle.entries.specs.Stored.{chunksFor}
 use Rattle.entries.specs.Live.{live}
 use Rattle.chunks.specs.Chunks.{markedChunks}
-use Rattle.sound.specs.Sound.{pairOf, pairsOf}
+use Rattle.entries.specs.Pairs.{pairOf, pairsOf}
 use Rattle.chains.proofs.Chained.{chained-in, extra-once}
 use Rattle.sound.proofs.KeyCounts.{withKey, keys-once}
 use Rattle.sound.proofs.Marked.{marked-sum}

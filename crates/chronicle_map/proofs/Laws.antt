@@ -10,7 +10,7 @@ use Rattle.layout.specs.declared.Shape.{Shape}
 use Rattle.entries.specs.declared.Live.{Live}
 use Rattle.entries.specs.Stored.{keyOf}
 use Rattle.entries.specs.Live.{live}
-use Rattle.sound.specs.Sound.{Pair, pairOf, pairsOf}
+use Rattle.entries.specs.Pairs.{Pair, pairOf, pairsOf}
 use Rattle.image.specs.declared.Stage.{Stage}
 use Rattle.image.specs.declared.Outcome.the-variants as outcome
 use Rattle.image.specs.declared.Verdict.{Verdict}

@@ -12,7 +12,8 @@ use Rattle.layout.specs.declared.Shape.{Shape}
 use Rattle.entries.specs.declared.Live.{Live}
 use Rattle.entries.specs.Stored.{keyOf}
 use Rattle.entries.specs.Live.{live}
-use Rattle.sound.specs.Sound.{Pair, pairOf, pairsOf, SoundImage}
+use Rattle.entries.specs.Pairs.{Pair, pairOf, pairsOf}
+use Rattle.sound.specs.Sound.{SoundImage}
 use Rattle.edit.specs.Edits.{find}
 use Rattle.chronicle_map.specs.History.{hasKey, Map, mapGet}
 use Rattle.sound.proofs.KeyCounts.{pair-live, live-pair}

@@ -11,7 +11,8 @@ use Rattle.settings.specs.Block.{settingsOf}
 use Rattle.layout.specs.declared.Shape.{Shape}
 use Rattle.layout.specs.Frame.{shapeOf}
 use Rattle.entries.specs.declared.Live.{Live}
-use Rattle.sound.specs.Sound.{Pair, pairOf, pairsOf, SoundImage}
+use Rattle.entries.specs.Pairs.{Pair, pairOf, pairsOf}
+use Rattle.sound.specs.Sound.{SoundImage}
 use Rattle.image.specs.declared.Examined.{Examined}
 use Rattle.image.specs.Check.{countsOf}
 use Rattle.edit.specs.Edits.{find, noRoom, storeImage}

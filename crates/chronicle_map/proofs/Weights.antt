@@ -9,7 +9,7 @@ use Rattle.lists.specs.Cases.{by-test}
 use Rattle.lists.specs.Lists.{those, total}
 use Rattle.words.specs.Bytes.{same}
 use Rattle.words.proofs.Bytes.{same-true, same-refl}
-use Rattle.sound.specs.Sound.{Pair}
+use Rattle.entries.specs.Pairs.{Pair}
 use Rattle.lists.proofs.Totals.{total-at, total-some, those-total, length-total}
 
 -- the same weights, whatever they are

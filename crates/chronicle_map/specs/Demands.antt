@@ -20,7 +20,8 @@ use Rattle.entries.specs.Keys.{KeyFits}
 use Rattle.entries.specs.Stored.{keyOf, chunksFor}
 use Rattle.entries.specs.Live.{live}
 use Rattle.chunks.specs.Chunks.{covers}
-use Rattle.sound.specs.Sound.{Pair, ImageFits}
+use Rattle.entries.specs.Pairs.{Pair}
+use Rattle.sound.specs.Sound.{ImageFits}
 use Rattle.image.specs.declared.Counts.{Counts}
 use Rattle.image.specs.declared.Outcome.{Outcome}
 use Rattle.image.specs.declared.Outcome.the-variants as outcome

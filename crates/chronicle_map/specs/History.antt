@@ -8,7 +8,7 @@ use Rattle.words.specs.Bytes.{same}
 use Rattle.settings.specs.declared.Settings.{Settings}
 use Rattle.settings.specs.Block.{settingsOf}
 use Rattle.layout.specs.Frame.{shapeOf}
-use Rattle.sound.specs.Sound.{Pair, pairsOf}
+use Rattle.entries.specs.Pairs.{Pair, pairsOf}
 use Rattle.edit.specs.Edits.{noRoom}
 use Rattle.chronicle_map.specs.Asked.{Given, aKey, anEntry, GivenKeyFits, givenKeyFits?, GivenValueFits, givenValueFits?}
 use Rattle.chronicle_map.specs.Calls.{numberOf, lookup, lookupNumbers, recordBytes, remove, store, answerNumber}

@@ -22,13 +22,14 @@ use Rattle.chains.proofs.Chained.{IsChained}
 use Rattle.entries.specs.Live.{fullSlots}
 use Rattle.chunks.specs.Chunks.{lowestClear, CountersFit}
 use Rattle.chunks.proofs.LowMark.{low-mark-exact}
-use Rattle.sound.specs.Sound.{Pair, pairsOf, SoundImage, SoundBut}
+use Rattle.entries.specs.Pairs.{Pair, pairsOf}
+use Rattle.sound.specs.Sound.{SoundImage, SoundBut}
 use Rattle.counters.specs.Recount.{recount, settle}
 use Rattle.chains.proofs.Tiers.{chain-tiers}
 use Rattle.sound.proofs.Sound.{sound-image, but-sound}
 use Rattle.counters.proofs.CountRoom.{count-room, low-room, full-few, lowest-few}
 use Rattle.sound.proofs.AgreeTier.{SameTier, same-full, same-lowest, same-weigh}
-use Rattle.sound.proofs.AgreeChains.{SameChains, same-chain}
+use Rattle.chains.proofs.AgreeChains.{SameChains, same-chain}
 use Rattle.sound.proofs.Replaced.{OnlyTier, tier-stays, tier-replaced, pairs-replaced}
 
 -- ---- what the two writes keep

@@ -22,7 +22,8 @@ use Rattle.entries.specs.Keys.{segmentOf}
 use Rattle.entries.specs.Stored.{chunksFor}
 use Rattle.entries.proofs.Hashes.{segment-lt}
 use Rattle.chunks.specs.Chunks.{clear}
-use Rattle.sound.specs.Sound.{Pair, pairsOf, SoundImage, SoundBut}
+use Rattle.entries.specs.Pairs.{Pair, pairsOf}
+use Rattle.sound.specs.Sound.{SoundImage, SoundBut}
 use Rattle.counters.specs.Recount.{touched}
 use Rattle.sound.proofs.Sound.{but-more}
 use Rattle.counters.proofs.Recounting.{settle-sound, settle-pairs}

@@ -19,7 +19,8 @@ use Rattle.entries.specs.Stored.{keyOf}
 use Rattle.entries.specs.Live.{slotAt, liveAt, live}
 use Rattle.entries.proofs.LiveLists.{in-live}
 use Rattle.search.specs.Rules.{keyAt}
-use Rattle.sound.specs.Sound.{Pair, pairOf, pairsOf, SoundImage, SoundBut}
+use Rattle.entries.specs.Pairs.{Pair, pairOf, pairsOf}
+use Rattle.sound.specs.Sound.{SoundImage, SoundBut}
 use Rattle.counters.specs.Recount.{settle}
 use Rattle.sound.proofs.Sound.{sound-but}
 use Rattle.counters.proofs.Recounting.{settle-sound, settle-pairs}

@@ -1,4 +1,5 @@
 pub mod Keys
 pub mod Stored
 pub mod Live
+pub mod Pairs
 pub mod Asking

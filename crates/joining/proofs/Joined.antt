@@ -16,7 +16,8 @@ use Rattle.chains.specs.Chains.{chain, freeHead, freeChain}
 use Rattle.entries.specs.Live.{slotAt, fullSlots}
 use Rattle.search.specs.Rules.{keyAt, KeysOnce, EntriesFit}
 use Rattle.chunks.specs.Chunks.{MarksFit, CountersFit, FreeTierFits}
-use Rattle.sound.specs.Sound.{Pair, pairsOf, SoundBut}
+use Rattle.entries.specs.Pairs.{Pair, pairsOf}
+use Rattle.sound.specs.Sound.{SoundBut}
 use Rattle.joining.specs.Joining.{lastTier, join}
 use Rattle.chains.proofs.Tiers.{chain-tiers}
 use Rattle.sound.proofs.AgreeTier.{same-tier-fits, same-marks, same-counters, same-free}

@@ -17,7 +17,8 @@ use Rattle.entries.specs.Live.{slotAt, fullSlots, liveIn}
 use Rattle.search.specs.Search.{slotsOf}
 use Rattle.search.specs.Rules.{keyAt, TierSlotsFit}
 use Rattle.chunks.specs.Chunks.{covers, FreeTierFits}
-use Rattle.sound.specs.Sound.{Pair, pairsOf, SoundBut}
+use Rattle.entries.specs.Pairs.{Pair, pairsOf}
+use Rattle.sound.specs.Sound.{SoundBut}
 use Rattle.joining.specs.Joining.{lastTier}
 use Rattle.sound.proofs.Values.{ifFull, weigh}
 use Rattle.lists.proofs.Totals.{total-same}

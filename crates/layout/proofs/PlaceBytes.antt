@@ -3,14 +3,15 @@ use Prim.Native.Nat.{ℕ, _+_, _*_, _≤_}
 use mathlib.Core.List.{List}
 use mathlib.Core.Path.{_≡_, refl, ap, sym, _∙_}
 use native.Mathlib.Omega.{arith}
-use lib.ListN.{getD}
+use lib.ListN.{getD, length}
 use Rattle.words.specs.Numbers.{le, putLe}
 use Rattle.settings.specs.Rules.{largest}
 use Rattle.layout.specs.declared.Shape.{Shape}
 use Rattle.layout.specs.Tiers.{tierAt, IsTier}
 use Rattle.layout.specs.Places.{Global, Header, Counter, slot, counter, Place, global, tier, fieldAt, globalNo, globalWidths, headerNo, headerWidths, counterNo, counterWidths}
 use Rattle.layout.specs.Places.{partWide, at, wide, In, get, put, countersAt, sharedPlace, sharedAt}
-use Rattle.layout.specs.Frame.{Framed, HasSlot}
+use Rattle.layout.specs.Frame.{Framed}
+use Rattle.layout.specs.FramedTier.{FramedSlot}
 use Rattle.layout.proofs.Apart.{inside}
 use Rattle.layout.proofs.Places.{global-at, counter-at, slot-at, get-at, put-at, shared-at, shared-wide, shared-in}
 
@@ -58,8 +59,8 @@ module _ {z : Shape} {len t : ℕ} (h : Framed z len × IsTier z t) where
         → PlaceBytes z len (sharedPlace z f g t) a (getD headerWidths (headerNo f) 0)
     shared-bytes-alike w = shared-bytes (shared-wide z f g t w)
 
-pub slot-bytes : {z : Shape} {len t j : ℕ} → HasSlot z len t j → {a n : ℕ} → a ≡ tierAt z t → n ≡ z .settings .slotSize
-    → PlaceBytes z len (tier t (slot j)) (a + j * z .settings .slotSize) n
+pub slot-bytes : {z : Shape} {img : List ℕ} {t j : ℕ} → FramedSlot z img t j → {a n : ℕ} → a ≡ tierAt z t → n ≡ z .settings .slotSize
+    → PlaceBytes z (length img) (tier t (slot j)) (a + j * z .settings .slotSize) n
 unfolding wide partWide
-slot-bytes {z} {len} {t} {j} h e f =
-    place-bytes (h .framed) (tier t (slot j)) (h .tier, h .slot) (ap (λ (x : ℕ). x + j * z .settings .slotSize) e ∙ sym (slot-at z t j)) f
+slot-bytes {z} {img} {t} {j} h e f =
+    place-bytes (h .tier .framed) (tier t (slot j)) (h .tier .tierIn, h .slotIn) (ap (λ (x : ℕ). x + j * z .settings .slotSize) e ∙ sym (slot-at z t j)) f

@@ -66,12 +66,6 @@ pub record Image (z : Shape) (img : List ℕ) : Type 0 where
   pub bytes : Bytes img
   pub framed : Framed z (length img)
 
--- slot j of tier t of an image of this length
-pub record HasSlot (z : Shape) (len t j : ℕ) : Type 0 where
-  pub framed : Framed z len
-  pub tier : IsTier z t
-  pub slot : j < z .settings .slots
-
 -- the n chunks from c on
 pub record HasChunks (z : Shape) (len t c n : ℕ) : Type 0 where
   pub framed : Framed z len

@@ -6,7 +6,8 @@ ghost use Prim.Native.Nat.{_<_};
 ghost use lib.ListN.{length};
 ghost use Rattle.layout.specs.Tiers.{IsTier};
 ghost use Rattle.layout.specs.Places.{get, global, firstFree, usedTiers, tier, slot as Places·slot, nextPlace, lowPlace, countPlace, mark as Places·mark};
-ghost use Rattle.layout.specs.Frame.{Framed, HasSlot, HasChunks};
+ghost use Rattle.layout.specs.Frame.{Framed, HasChunks};
+ghost use Rattle.layout.specs.FramedTier.{FramedSlot};
 
 pub fn first_free(z: Shape, img: &[u8]) -> u64
     requires { ⌜ Framed z (length (now img)) ⌝ }
@@ -56,7 +57,7 @@ pub fn count_of(z: Shape, img: &[u8], t: usize) -> u64
 }
 
 pub fn slot(z: Shape, img: &[u8], t: usize, j: usize) -> u64
-    requires { ⌜ HasSlot z (length (now img)) t j ⌝ }
+    requires { ⌜ FramedSlot z (now img) t j ⌝ }
     ensures { λ r. ⌜ r ≡ get z (now (img .entry)) (tier t (Places·slot j)) ⌝ }
 {
     let at = super::tier_at(z, t) + j * z.settings.slotSize;

@@ -6,7 +6,8 @@ ghost use Prim.Native.Nat.{_<_};
 ghost use lib.ListN.{length};
 ghost use Rattle.layout.specs.Tiers.{IsTier};
 ghost use Rattle.layout.specs.Places.{put, global, firstFree, usedTiers, tier, slot, counter, previous, segment, order, nextPlace, lowPlace, countPlace, putMarks};
-ghost use Rattle.layout.specs.Frame.{Framed, HasSlot, HasChunks};
+ghost use Rattle.layout.specs.Frame.{Framed, HasChunks};
+ghost use Rattle.layout.specs.FramedTier.{FramedSlot};
 
 pub fn put_first_free(z: Shape, img: &mut [u8], v: u64)
     requires { ⌜ Framed z (length (now img)) ⌝ }
@@ -76,7 +77,7 @@ pub fn put_order(z: Shape, img: &mut [u8], t: usize, v: u64)
 }
 
 pub fn put_slot(z: Shape, img: &mut [u8], t: usize, j: usize, v: u64)
-    requires { ⌜ HasSlot z (length (now img)) t j ⌝ }
+    requires { ⌜ FramedSlot z (now img) t j ⌝ }
     ensures { λ r. ⌜ now (img .exit) ≡ put z (now (img .entry)) (tier t (slot j)) v ⌝ }
 {
     let wide = z.settings.slotSize;

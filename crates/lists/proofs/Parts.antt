@@ -1,27 +1,15 @@
--- A list made of parts: how long a part is, and what counts or adds up its members where a part has become longer by one.
-use Prim.Native.Nat.{ℕ, zero, suc, _+_, _≤_, _<_}
-use mathlib.Core.List.{List, [], _∷_, _++_, flatMap, List·Memᴰ, List·Memᴰ·not-nil, List·Memᴰ·cases-cons}
+-- A list made of parts: what counts or adds up its members where a part has become longer by one.
+use Prim.Native.Nat.{ℕ, zero, suc, _+_, _<_}
+use mathlib.Core.List.{List, [], _∷_, _++_, flatMap}
 use mathlib.Core.Path.{_≡_, ap, sym, _∙_}
 use mathlib.Core.Logic.{⊎-elim, _≢_}
 use native.Mathlib.Omega.{arith}
 use native.Mathlib.Numerals.{add-one}
-use lib.ListN.{length, length-append}
 use Rattle.lists.specs.Cases.{same-or}
 use Rattle.lists.specs.Lists.{below}
 use Rattle.lists.specs.Quantify.{Below}
 use Rattle.lists.proofs.Lists.{flatMap-below, span-in}
 use Rattle.lists.proofs.SameLists.{same-flatMap}
-
--- one part of a list that is put together is no longer than the whole
-pub part-length : {A B : Type 0} (f : A → List B) (xs : List A) (x : A) → List·Memᴰ x xs → length (f x) ≤ length (flatMap f xs)
-unfolding flatMap
-part-length f [] x m = absurd (List·Memᴰ·not-nil m)
-part-length {A} f (y ∷ xs) x m =
-    let whole : length (f y ++ flatMap f xs) ≡ length (f y) + length (flatMap f xs) = length-append (f y) (flatMap f xs) in
-    ⊎-elim
-    (λ (e : x ≡ y). omega (arith, whole, ap (λ (u : A). length (f u)) e))
-    (λ k. omega (arith, whole, part-length f xs x k))
-    (List·Memᴰ·cases-cons m)
 
 pub parts-same : (f f′ : ℕ → List ℕ) (n : ℕ) → Below n (λ i. f′ i ≡ f i) → flatMap f′ (below n) ≡ flatMap f (below n)
 parts-same f f′ n e = same-flatMap f′ f (below n) (λ i m. e i (omega (arith, span-in 0 n i m)))

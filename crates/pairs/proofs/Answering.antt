@@ -19,7 +19,6 @@ use Rattle.image.specs.Check.{check}
 use Rattle.chronicle_map.specs.declared.Located.{Located}
 use Rattle.chronicle_map.specs.declared.Located.the-variants as looked
 use Rattle.chronicle_map.specs.declared.Answer.{Answer}
-use Rattle.chronicle_map.specs.declared.Answer.the-variants as answer
 use Rattle.chronicle_map.specs.Calls.{lookup, recordAt, recordLength, recordBytes, Edited, store}
 use Rattle.chronicle_map.proofs.Laws.{check-lookup, check-store}
 use Rattle.pairs.specs.declared.Asked.{Asked}

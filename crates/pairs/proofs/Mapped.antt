@@ -9,7 +9,7 @@ use lib.ListN.{length}
 use lib.IntN.{ℤ, ℤ-discrete}
 use Rattle.lists.specs.Cases.{same-or}
 use Rattle.words.specs.Bytes.{Bytes}
-use Rattle.sound.specs.Sound.{Pair}
+use Rattle.entries.specs.Pairs.{Pair}
 use Rattle.image.specs.declared.Verdict.{Verdict}
 use Rattle.image.specs.Check.{check}
 use Rattle.chronicle_map.specs.Calls.{lookup, store, answerNumber}

@@ -11,7 +11,7 @@ use lib.IntN.{ℤ, pos, negℤ, _+ℤ_, +ℤ-invr}
 use mir.Syntax.{w32}
 use mir.Val.{SFits}
 use Rattle.words.specs.Bytes.{Bytes}
-use Rattle.sound.specs.Sound.{Pair}
+use Rattle.entries.specs.Pairs.{Pair}
 use Rattle.chronicle_map.specs.History.{mapOf, mapGet}
 use Rattle.chronicle_map.specs.Demands.{Accepted}
 use Rattle.pairs.specs.declared.Asked.{Asked}

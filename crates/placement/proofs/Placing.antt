@@ -6,11 +6,12 @@ use native.Mathlib.Omega.{arith}
 use Rattle.lists.specs.Lists.{total}
 use Rattle.layout.specs.declared.Shape.{Shape}
 use Rattle.chains.specs.Chains.{chain}
-use Rattle.sound.specs.Sound.{Pair, pairsOf, SoundBut}
+use Rattle.entries.specs.Pairs.{Pair, pairsOf}
+use Rattle.sound.specs.Sound.{SoundBut}
 use Rattle.placement.specs.Placement.{placeAt}
 use Rattle.sound.proofs.Values.{pairFor, weigh}
 use Rattle.sound.proofs.Replaced.{OnlyTier, tier-replaced, pairs-replaced}
-use Rattle.sound.proofs.AgreeChains.{same-chain}
+use Rattle.chains.proofs.AgreeChains.{same-chain}
 pub use Rattle.placement.proofs.Before.{Places}
 use Rattle.placement.proofs.Before.{numberFor}
 use Rattle.placement.proofs.Writing.{filled-only}

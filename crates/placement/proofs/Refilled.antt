@@ -21,7 +21,7 @@ use Rattle.entries.proofs.Whole.{entryHere, stored-whole}
 use Rattle.search.specs.Rules.{Hashed, keyAt, EntryFits, TierSlotsFit}
 use Rattle.search.proofs.Fitting.{entry-right}
 use Rattle.chunks.specs.Chunks.{covers}
-use Rattle.sound.specs.Sound.{Pair}
+use Rattle.entries.specs.Pairs.{Pair}
 use Rattle.sound.proofs.Values.{entryFor, pairFor}
 use Rattle.sound.proofs.Replaced.{TierAgain}
 use Rattle.placement.proofs.Before.{numberFor, Places, number-fits, number-key, number-chunk, number-rest, entry-in-chunks}

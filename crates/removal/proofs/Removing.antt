@@ -17,13 +17,14 @@ use Rattle.entries.specs.declared.Live.{Live}
 use Rattle.entries.specs.Live.{slotAt, entryAt, fullSlots, liveAt, live}
 use Rattle.entries.proofs.LiveLists.{IsLive, live-in}
 use Rattle.search.specs.Search.{slotsOf}
-use Rattle.sound.specs.Sound.{Pair, pairOf, pairsOf, SoundBut}
+use Rattle.entries.specs.Pairs.{Pair, pairOf, pairsOf}
+use Rattle.sound.specs.Sound.{SoundBut}
 use Rattle.removal.specs.Removal.{removeEntry}
 use Rattle.sound.proofs.Values.{pairFor, ifFull, weigh}
 use Rattle.sound.proofs.Sums.{full-total, table-same}
 use Rattle.chains.proofs.Tiers.{chain-tiers}
 use Rattle.sound.proofs.AgreeTier.{same-full}
-use Rattle.sound.proofs.AgreeChains.{same-chain}
+use Rattle.chains.proofs.AgreeChains.{same-chain}
 use Rattle.sound.proofs.Replaced.{OnlyTier, tier-replaced, pairs-replaced}
 use Rattle.sound.proofs.Sound.{sound-image}
 use Rattle.removal.proofs.Slots.{removeAt-only}

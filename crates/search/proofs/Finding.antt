@@ -13,7 +13,6 @@ use Rattle.settings.specs.declared.Settings.{Settings}
 use Rattle.layout.specs.declared.Shape.{Shape}
 use Rattle.layout.specs.Tiers.{IsTier}
 use Rattle.layout.specs.Frame.{Framed}
-use Rattle.probe.specs.Table.{Empty as EmptySlot}
 use Rattle.probe.specs.Search.{room, ends, seek}
 use Rattle.probe.proofs.Search.{probe-lt, seek-room, room-empty}
 use Rattle.entries.specs.Keys.{lookupKey, start, slotKey}
@@ -25,6 +24,7 @@ use Rattle.search.specs.Search.{slotsOf, hits, seekIn, soughtIn, searchF
 use Rattle.search.specs.Rules.{keyAt, SomeEmpty}
 use Rattle.search.specs.Asking.{Lacks}
 use Rattle.search.proofs.Slots.{slots-lawful}
+use Rattle.probe.specs.Table.{Empty as EmptySlot}
 
 module _ (z : Shape) (img : List ℕ) where
   open Shape z using (settings)

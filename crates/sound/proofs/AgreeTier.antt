@@ -33,7 +33,7 @@ use Rattle.probe.specs.Ring.{dist}
 use Rattle.search.specs.Rules.{IsWhole, keyAt, EntryFits, SomeEmpty, SlotsFit, TierSlotsFit}
 use Rattle.chunks.specs.Chunks.{covers, clear, lowestClear, MarksFit, CountersFit, FreeTierFits}
 use Rattle.chunks.proofs.LowMark.{low-mark-same}
-use Rattle.sound.specs.Sound.{Pair}
+use Rattle.entries.specs.Pairs.{Pair}
 use Rattle.sound.proofs.Values.{entryFor, pairFor, weigh}
 use Rattle.sound.proofs.Sums.{table-same}
 use Rattle.lists.proofs.SameLists.{same-those, same-first, same-map}

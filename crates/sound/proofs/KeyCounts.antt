@@ -20,7 +20,8 @@ use Rattle.entries.specs.Keys.{segmentOf}
 use Rattle.entries.specs.Live.{slotAt, entryAt, live}
 use Rattle.search.specs.Search.{slotsOf}
 use Rattle.search.specs.Rules.{keyAt}
-use Rattle.sound.specs.Sound.{Pair, pairOf, pairsOf, SoundImage}
+use Rattle.entries.specs.Pairs.{Pair, pairOf, pairsOf}
+use Rattle.sound.specs.Sound.{SoundImage}
 use Rattle.sound.proofs.Values.{pairFor, ifFull, weigh}
 use Rattle.lists.proofs.Totals.{total-change, total-zero, total-some}
 use Rattle.sound.proofs.Sums.{pairs-total}

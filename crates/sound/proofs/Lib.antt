@@ -2,7 +2,6 @@
 pub mod Values
 pub mod Sums
 pub mod AgreeTier
-pub mod AgreeChains
 pub mod Sound
 pub mod Replaced
 pub mod KeyCounts

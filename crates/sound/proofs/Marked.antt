@@ -32,7 +32,8 @@ use Rattle.chunks.specs.Chunks.{covers, markedIn, markedChunks}
 use Rattle.chunks.specs.Counting.{chunksOfEntry, chunksOfAll}
 use Rattle.chunks.proofs.Covering.{covered-by, range-ends}
 use Rattle.chunks.proofs.Marks.{markedBelow, marked-none, marked-more, marked-all}
-use Rattle.sound.specs.Sound.{Pair, pairsOf, SoundImage}
+use Rattle.entries.specs.Pairs.{Pair, pairsOf}
+use Rattle.sound.specs.Sound.{SoundImage}
 use Rattle.sound.proofs.Values.{pairFor, weigh}
 use Rattle.lists.proofs.Totals.{total-same}
 use Rattle.sound.proofs.Sums.{liveIn-total, pairs-total}

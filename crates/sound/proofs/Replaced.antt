@@ -18,14 +18,15 @@ use Rattle.chains.specs.Chains.{chain, freeChain, chained}
 use Rattle.entries.specs.Live.{slotAt}
 use Rattle.search.specs.Rules.{keyAt, KeyOnce, KeysOnce, EntriesFit, TierSlotsFit}
 use Rattle.chunks.specs.Chunks.{MarksFit, CountersFit}
-use Rattle.sound.specs.Sound.{Pair, pairsOf, SoundBut}
+use Rattle.entries.specs.Pairs.{Pair, pairsOf}
+use Rattle.sound.specs.Sound.{SoundBut}
 use Rattle.sound.proofs.Values.{weigh}
 use Rattle.lists.proofs.Totals.{total-change}
 use Rattle.sound.proofs.Sums.{pairs-total}
 use Rattle.chains.proofs.Chained.{chain-segment, free-not-chained, chained-once, chained-in}
 use Rattle.chains.proofs.Tiers.{chain-tiers, free-tiers}
 use Rattle.sound.proofs.AgreeTier.{SameTier, SameCounters, Moved, entry-moves, same-tier-fits, same-marks, same-counters, same-free, same-weigh}
-use Rattle.sound.proofs.AgreeChains.{SameChains, same-chain, same-freeChain, same-chained, same-chains-fit}
+use Rattle.chains.proofs.AgreeChains.{SameChains, same-chain, same-freeChain, same-chained, same-chains-fit}
 
 pub record OnlyTier (z : Shape) (img img′ : List ℕ) (t : ℕ) : Type 0 where
   pub image : Image z img′

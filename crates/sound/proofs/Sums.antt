@@ -20,7 +20,7 @@ use Rattle.probe.specs.Table.{Table, slotTotal}
 use Rattle.entries.specs.declared.Live.{Live}
 use Rattle.entries.specs.Live.{slotAt, fullSlots, entryAt, liveAt, liveIn, liveOf, live}
 use Rattle.search.specs.Search.{slotsOf}
-use Rattle.sound.specs.Sound.{Pair, pairOf, pairsOf}
+use Rattle.entries.specs.Pairs.{Pair, pairOf, pairsOf}
 use Rattle.sound.proofs.Values.{pairFor, ifFull, full-is, empty-is, weigh}
 use Rattle.lists.proofs.Totals.{total-map, total-flatMap, total-same, length-total}
 

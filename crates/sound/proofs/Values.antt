@@ -12,7 +12,7 @@ use Rattle.entries.specs.declared.Entry.{Entry}
 use Rattle.entries.specs.Keys.{slotChunk}
 use Rattle.entries.specs.Stored.{stored, entryOf, keyOf, valueOf}
 use Rattle.search.specs.Search.{slotsOf}
-use Rattle.sound.specs.Sound.{Pair}
+use Rattle.entries.specs.Pairs.{Pair}
 
 -- the entry that a slot with v of tier t names, and its key and record
 abbrev pub entryFor : Shape → List ℕ → ℕ → ℕ → Entry

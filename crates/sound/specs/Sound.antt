@@ -1,6 +1,6 @@
--- A sound image, and what its live entries hold.
+-- A sound image: bytes of a shape that fit the layout with every rule of refusals 3 to 7.
 use Prim.Native.Nat.{ℕ}
-use mathlib.Core.List.{List, List·Memᴰ, map}
+use mathlib.Core.List.{List, List·Memᴰ}
 use mathlib.Core.Path.{_≡_}
 use Rattle.lists.specs.Quantify.{Below, Every}
 use Rattle.words.specs.Bytes.{Bytes}
@@ -8,23 +8,8 @@ use Rattle.settings.specs.Rules.{Valid}
 use Rattle.layout.specs.declared.Shape.{Shape}
 use Rattle.layout.specs.Frame.{shapeOf, FrameFits}
 use Rattle.chains.specs.Chains.{chain, freeChain, ChainsFit}
-use Rattle.entries.specs.declared.Live.{Live}
-use Rattle.entries.specs.Stored.{keyOf, valueOf}
-use Rattle.entries.specs.Live.{live}
 use Rattle.search.specs.Rules.{EntriesFit}
 use Rattle.chunks.specs.Chunks.{MarksFit, CountersFit, FreeTierFits, ChunksFit}
-
--- a key and its record
-pub record Pair : Type 0 where
-  pub key : List ℕ
-  pub value : List ℕ
-
--- those of a live entry; those of the whole image
-abbrev pub pairOf : List ℕ → Live → Pair
-pairOf img e = record { key = keyOf img (e .entry); value = valueOf img (e .entry) }
-
-unfoldable pub pairsOf : Shape → List ℕ → List Pair
-pairsOf z img = map (pairOf img) (live z img)
 
 -- the rules of refusals 3 to 7, where C is what is asked of chunks and counters
 pub record FitsWith (C : Type 0) (z : Shape) (img : List ℕ) : Type 0 where

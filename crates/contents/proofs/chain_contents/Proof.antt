@@ -5,11 +5,6 @@ use lib.ListN.{length}
 use borrow.Author.Needs.{needs}
 use Rattle.contents.proofs.chain_contents.Statement.{statement}
 use Rattle.contents.proofs.chain_contents.Tie as tie
-use Rattle.contents.proofs.chain_contents.Reads as reads
-use Rattle.contents.proofs.chain_contents.Lts as lts
-use Rattle.contents.proofs.joined.Reads as joined-reads
-use Rattle.contents.proofs.tier_contents.Reads as tier-contents-reads
-use Rattle.layout.proofs.read.next_of.Reads as next-of-reads
 
 abbrev Inv-loop : tie.InvT-loop
 Inv-loop z img s sum₀ t₀ sum t = Summing z img s sum t

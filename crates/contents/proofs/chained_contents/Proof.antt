@@ -4,10 +4,6 @@ use borrow.Author.Needs.{needs}
 use native.Mathlib.Omega.{arith}
 use Rattle.contents.proofs.chained_contents.Statement.{statement}
 use Rattle.contents.proofs.chained_contents.Tie as tie
-use Rattle.contents.proofs.chained_contents.Reads as reads
-use Rattle.contents.proofs.chained_contents.Lts as lts
-use Rattle.contents.proofs.chain_contents.Reads as chain-contents-reads
-use Rattle.contents.proofs.joined.Reads as joined-reads
 
 abbrev Inv-loop : tie.InvT-loop
 Inv-loop z img sum₀ s₀ sum s = AllSumming z img sum s

@@ -4,11 +4,6 @@ use native.Mathlib.Omega.{arith}
 use borrow.Author.Needs.{needs}
 use Rattle.contents.proofs.contents_of.Statement.{statement}
 use Rattle.contents.proofs.contents_of.Tie as tie
-use Rattle.contents.proofs.contents_of.Reads as reads
-use Rattle.contents.proofs.contents_of.Lts as lts
-use Rattle.contents.proofs.chained_contents.Reads as chained-contents-reads
-use Rattle.contents.proofs.free_contents.Reads as free-contents-reads
-use Rattle.contents.proofs.joined.Reads as joined-reads
 
 chained-contents-requires : tie.Need-chained-contents-requires
 chained-contents-requires c κs = search needs

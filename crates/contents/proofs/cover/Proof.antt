@@ -4,10 +4,6 @@ use Prim.Native.Nat.{_-_}
 use native.Mathlib.Omega.{arith}
 use Rattle.contents.proofs.cover.Statement.{statement}
 use Rattle.contents.proofs.cover.Tie as tie
-use Rattle.contents.proofs.cover.Reads as reads
-use Rattle.contents.proofs.cover.Lts as lts
-use Rattle.chunks.proofs.count.Reads as count-reads
-use Rattle.search.proofs.rules.slot_fits.Reads as slot-fits-reads
 
 abbrev Inv-loop : tie.InvT-loop
 Inv-loop z img s t list full covered₀ i₀ covered i = Covering z img s t list full covered₀ covered i

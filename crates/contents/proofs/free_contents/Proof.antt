@@ -3,9 +3,6 @@ use mathlib.Core.Path.{refl}
 use borrow.Author.Needs.{needs}
 use Rattle.contents.proofs.free_contents.Statement.{statement}
 use Rattle.contents.proofs.free_contents.Tie as tie
-use Rattle.contents.proofs.free_contents.Reads as reads
-use Rattle.contents.proofs.free_contents.Lts as lts
-use Rattle.chunks.proofs.free_fits.Reads as free-fits-reads
 
 free-fits-requires : tie.Need-free-fits-requires
 free-fits-requires c κs = search needs

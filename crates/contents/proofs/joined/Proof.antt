@@ -6,8 +6,6 @@ use native.Mathlib.Omega.{arith}
 use borrow.Author.Needs.{needs}
 use Rattle.contents.proofs.joined.Statement.{statement}
 use Rattle.contents.proofs.joined.Tie as tie
-use Rattle.contents.proofs.joined.Reads as reads
-use Rattle.contents.proofs.joined.Lts as lts
 
 enum-told : tie.Need-enum-told
 enum-told c = search needs

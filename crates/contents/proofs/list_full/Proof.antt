@@ -5,9 +5,6 @@ use mathlib.Core.Path.{_≡_, sym, _∙_}
 use native.Mathlib.Omega.{arith}
 use Rattle.contents.proofs.list_full.Statement.{statement}
 use Rattle.contents.proofs.list_full.Tie as tie
-use Rattle.contents.proofs.list_full.Reads as reads
-use Rattle.contents.proofs.list_full.Lts as lts
-use Rattle.layout.proofs.read.slot.Reads as slot-reads
 
 abbrev Inv-loop : tie.InvT-loop
 Inv-loop z img t list₀ last n₀ j₀ list n j = Gathering z img t list₀ list n j × (last + 1 ≡ z .settings .slots)
@@ -46,7 +43,7 @@ slice-write-list c =
 slot-requires : tie.Need-slot-requires Inv-loop μ-loop
 slot-requires c κs =
     let start = c .before .before .before .before .before in
-    record { framed = start .pre .tier .framed; tier = start .pre .tier .tierIn; slot = omega (arith, c .before .loop .inv .1, c .loop-test .taken) }
+    record { tier = record { framed = start .pre .tier .framed; tierIn = start .pre .tier .tierIn }; slotIn = omega (arith, c .before .loop .inv .1, c .loop-test .taken) }
 
 add-n : tie.Need-add-n Inv-loop μ-loop
 add-n c =

@@ -8,13 +8,6 @@ use mathlib.Core.Path.{sym, _∙_}
 use borrow.Author.Needs.{needs}
 use Rattle.contents.proofs.tier_contents.Statement.{statement}
 use Rattle.contents.proofs.tier_contents.Tie as tie
-use Rattle.contents.proofs.tier_contents.Reads as reads
-use Rattle.contents.proofs.tier_contents.Lts as lts
-use Rattle.chunks.proofs.marks_agree.Reads as marks-agree-reads
-use Rattle.contents.proofs.cover.Reads as cover-reads
-use Rattle.contents.proofs.list_full.Reads as list-full-reads
-use Rattle.layout.proofs.read.count_of.Reads as count-of-reads
-use Rattle.search.proofs.rules.some_empty.Reads as some-empty-reads
 
 some-empty-requires : tie.Need-some-empty-requires
 some-empty-requires c κs = search needs

@@ -2,12 +2,6 @@ use Rattle.edit.proofs.Replacing.{sound-framed, sound-tiers, old-absent
 use borrow.Author.Needs.{needs}
 use Rattle.edit.proofs.old_entry.Statement.{statement}
 use Rattle.edit.proofs.old_entry.Tie as tie
-use Rattle.edit.proofs.old_entry.Reads as reads
-use Rattle.edit.proofs.old_entry.Lts as lts
-use Rattle.entries.proofs.chunks_for.Reads as chunks-for-reads
-use Rattle.entries.proofs.read.chunk_of.Reads as chunk-of-reads
-use Rattle.entries.proofs.read.entry_at.Reads as entry-at-reads
-use Rattle.search.proofs.search.Reads as search-reads
 
 search-requires : tie.Need-search-requires
 search-requires c κs =

@@ -3,9 +3,6 @@ use Rattle.edit.proofs.Replacing.{out-none, out-some}
 use borrow.Author.Needs.{needs}
 use Rattle.edit.proofs.take_out.Statement.{statement}
 use Rattle.edit.proofs.take_out.Tie as tie
-use Rattle.edit.proofs.take_out.Reads as reads
-use Rattle.edit.proofs.take_out.Lts as lts
-use Rattle.removal.proofs.remove_at.Reads as remove-at-reads
 
 returns : tie.Need-returns
 returns c =

@@ -7,9 +7,6 @@ use native.Mathlib.Omega.{arith}
 use borrow.Author.Needs.{needs}
 use Rattle.entries.proofs.chunks_for.Statement.{statement}
 use Rattle.entries.proofs.chunks_for.Tie as tie
-use Rattle.entries.proofs.chunks_for.Reads as reads
-use Rattle.entries.proofs.chunks_for.Lts as lts
-use Rattle.entries.proofs.value_offset.Reads as value-offset-reads
 use Rattle.lists.proofs.Numbers.{ceil-one}
 
 value-offset-requires : tie.Need-value-offset-requires

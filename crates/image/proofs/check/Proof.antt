@@ -3,9 +3,6 @@ use Rattle.image.specs.Check.{verdictOf, check}
 use borrow.Author.Needs.{needs}
 use Rattle.image.proofs.check.Statement.{statement}
 use Rattle.image.proofs.check.Tie as tie
-use Rattle.image.proofs.check.Reads as reads
-use Rattle.image.proofs.check.Lts as lts
-use Rattle.image.proofs.examine.Reads as examine-reads
 
 examine-requires : tie.Need-examine-requires
 examine-requires c κs = search needs

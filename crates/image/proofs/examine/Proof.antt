@@ -4,10 +4,6 @@ use Rattle.image.specs.Check.{afterBlock, examine}
 use borrow.Author.Needs.{needs}
 use Rattle.image.proofs.examine.Statement.{statement}
 use Rattle.image.proofs.examine.Tie as tie
-use Rattle.image.proofs.examine.Reads as reads
-use Rattle.image.proofs.examine.Lts as lts
-use Rattle.image.proofs.examine_image.Reads as examine-image-reads
-use Rattle.settings.proofs.parse.Reads as parse-reads
 
 parse-requires : tie.Need-parse-requires
 parse-requires c κs = search needs

@@ -4,11 +4,6 @@ use mathlib.Core.Path.{sym, _∙_}
 use borrow.Author.Needs.{needs}
 use Rattle.image.proofs.examine_image.Statement.{statement}
 use Rattle.image.proofs.examine_image.Tie as tie
-use Rattle.image.proofs.examine_image.Reads as reads
-use Rattle.image.proofs.examine_image.Lts as lts
-use Rattle.chains.proofs.chains_of.Reads as chains-of-reads
-use Rattle.contents.proofs.contents_of.Reads as contents-of-reads
-use Rattle.layout.proofs.frame_of.Reads as frame-of-reads
 
 frame-of-requires : tie.Need-frame-of-requires
 frame-of-requires c κs = search needs

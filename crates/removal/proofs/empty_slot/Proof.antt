@@ -27,13 +27,13 @@ slot-requires : tie.Need-slot-requires Inv-loop μ-loop
 slot-requires c κs =
     let s = c .before .before .before .before .before .before in
     let w = c .before .before .loop .inv .0 in
-    record { framed = emptying-framed (s .args .z) (s .args .t) w (s .pre .0); tier = s .pre .1; slot = w .i-lt }
+    record { tier = record { framed = emptying-framed (s .args .z) (s .args .t) w (s .pre .0); tierIn = s .pre .1 }; slotIn = w .i-lt }
 
 put-slot-requires : tie.Need-put-slot-requires Inv-loop μ-loop
 put-slot-requires c κs =
     let s = c .before .before .before .before .before .before .before .before .before in
     let w = c .before .before .before .before .before .loop .inv .0 in
-    record { framed = emptying-framed (s .args .z) (s .args .t) w (s .pre .0); tier = s .pre .1; slot = w .hole-lt }
+    record { tier = record { framed = emptying-framed (s .args .z) (s .args .t) w (s .pre .0); tierIn = s .pre .1 }; slotIn = w .hole-lt }
 
 same-length : tie.Need-same-length Inv-loop μ-loop
 same-length c =
@@ -58,7 +58,7 @@ put-slot-requires-2 : tie.Need-put-slot-requires-2 Inv-loop μ-loop
 put-slot-requires-2 c κs =
     let s = c .before .before .before .before .before .before .before .before .before .before .before in
     let w = c .before .before .before .before .before .before .before .loop .inv .0 in
-    record { framed = emptying-framed (s .args .z) (s .args .t) w (s .pre .0); tier = s .pre .1; slot = w .hole-lt }
+    record { tier = record { framed = emptying-framed (s .args .z) (s .args .t) w (s .pre .0); tierIn = s .pre .1 }; slotIn = w .hole-lt }
 
 step-requires-2 : tie.Need-step-requires-2 Inv-loop μ-loop
 step-requires-2 c κs =
@@ -94,7 +94,7 @@ put-slot-requires-3 : tie.Need-put-slot-requires-3 Inv-loop μ-loop
 put-slot-requires-3 c κs =
     let s = c .before .before .before .before .before .before in
     let w = c .before .before .loop .inv .0 in
-    record { framed = emptying-framed (s .args .z) (s .args .t) w (s .pre .0); tier = s .pre .1; slot = w .hole-lt }
+    record { tier = record { framed = emptying-framed (s .args .z) (s .args .t) w (s .pre .0); tierIn = s .pre .1 }; slotIn = w .hole-lt }
 
 same-length-2 : tie.Need-same-length-2 Inv-loop μ-loop
 same-length-2 c =

@@ -2,8 +2,6 @@ use Rattle.entries.proofs.Powers.{leadingZeros-power}
 use native.Mathlib.Omega.{arith}
 use Rattle.entries.proofs.keys.log2.Statement.{statement}
 use Rattle.entries.proofs.keys.log2.Tie as tie
-use Rattle.entries.proofs.keys.log2.Reads as reads
-use Rattle.entries.proofs.keys.log2.Lts as lts
 
 cast-result : tie.Need-cast-result
 cast-result c = omega (arith, leadingZeros-power (c .args .x) (c .pre) .0)

@@ -4,11 +4,6 @@ use Prim.Native.Nat.{ℕ, _/_, _%_, _^_}
 use borrow.Author.Needs.{needs}
 use Rattle.entries.proofs.keys.lookup_of_hash.Statement.{statement}
 use Rattle.entries.proofs.keys.lookup_of_hash.Tie as tie
-use Rattle.entries.proofs.keys.lookup_of_hash.Reads as reads
-use Rattle.entries.proofs.keys.lookup_of_hash.Lts as lts
-use Rattle.entries.proofs.keys.log2.Reads as log2-reads
-use Rattle.entries.proofs.keys.low_bits.Reads as low-bits-reads
-use Rattle.entries.proofs.keys.ones.Reads as ones-reads
 
 log2-requires : tie.Need-log2-requires
 log2-requires c κs = search needs

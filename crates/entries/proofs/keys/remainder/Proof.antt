@@ -3,8 +3,6 @@ use lib.Pow.{pow-pos}
 use native.Mathlib.Omega.{arith}
 use Rattle.entries.proofs.keys.remainder.Statement.{statement}
 use Rattle.entries.proofs.keys.remainder.Tie as tie
-use Rattle.entries.proofs.keys.remainder.Reads as reads
-use Rattle.entries.proofs.keys.remainder.Lts as lts
 
 sub-result : tie.Need-sub-result
 sub-result c = omega (arith, c .pre .1 .1, pow-pos (c .pre .0))

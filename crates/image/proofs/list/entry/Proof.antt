@@ -4,10 +4,6 @@ use Rattle.image.proofs.Ready.{ready-framed, ready-tiers}
 use borrow.Author.Needs.{needs}
 use Rattle.image.proofs.list.entry.Statement.{statement}
 use Rattle.image.proofs.list.entry.Tie as tie
-use Rattle.image.proofs.list.entry.Reads as reads
-use Rattle.image.proofs.list.entry.Lts as lts
-use Rattle.image.proofs.examine.Reads as examine-reads
-use Rattle.image.proofs.list.nth.Reads as nth-reads
 
 examine-requires : tie.Need-examine-requires
 examine-requires c κs = search needs

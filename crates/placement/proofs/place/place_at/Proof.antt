@@ -44,9 +44,8 @@ put-slot-requires c κs =
     let start = p .before .before .before .before .before .before .before in
     let tier = start .pre .write .tier in
     record {
-      framed = framed-again (write-at .kept .1 .0) (tier .framed);
-      tier = tier .tierIn;
-      slot = rw (slot-for .ensures) (firstEmpty-lt (tier .framed) (start .args .img .now) (start .args .t) (start .args .key .now));
+      tier = record { framed = framed-again (write-at .kept .1 .0) (tier .framed); tierIn = tier .tierIn };
+      slotIn = rw (slot-for .ensures) (firstEmpty-lt (tier .framed) (start .args .img .now) (start .args .t) (start .args .key .now));
     }
 
 same-length : tie.Need-same-length

@@ -33,9 +33,8 @@ slot-requires : tie.Need-slot-requires Inv-loop μ-loop
 slot-requires c κs =
     let start = c .before .before .before .before .before in
     record {
-      framed = start .pre .slot .tier .framed;
-      tier = start .pre .slot .tier .tierIn;
-      slot =
+      tier = start .pre .slot .tier;
+      slotIn =
           coming-lt (start .args .z) (start .args .img .now) (start .args .t) (start .args .j) (start .pre .slot .slotIn)
           (c .before .before .loop .inv .0);
     }

@@ -8,14 +8,6 @@ use native.Mathlib.Omega.{arith}
 use borrow.Author.Needs.{needs}
 use Rattle.search.proofs.rules.entry_fits.Statement.{statement}
 use Rattle.search.proofs.rules.entry_fits.Tie as tie
-use Rattle.search.proofs.rules.entry_fits.Reads as reads
-use Rattle.search.proofs.rules.entry_fits.Lts as lts
-use Rattle.entries.proofs.chunks_for.Reads as chunks-for-reads
-use Rattle.entries.proofs.keys.slot_chunk.Reads as slot-chunk-reads
-use Rattle.entries.proofs.keys.slot_rest.Reads as slot-rest-reads
-use Rattle.entries.proofs.read.stored.Reads as stored-reads
-use Rattle.layout.proofs.read.slot.Reads as slot-reads
-use Rattle.search.proofs.rules.hash_agrees.Reads as hash-agrees-reads
 
 slot-requires : tie.Need-slot-requires
 slot-requires c κs = search needs

@@ -1,10 +1,10 @@
 use mathlib.Core.Path.{sym, ap, _∙_}
-use Rattle.xxh64.specs.Hash.{xxh64 as hash}
 use Rattle.entries.specs.Keys.{segmentOf, segmentOfHash, lookupKey, lookupOfHash}
 use Rattle.search.proofs.Fitting.{key-cut}
 use borrow.Author.Needs.{needs}
 use Rattle.search.proofs.rules.hash_agrees.Statement.{statement}
 use Rattle.search.proofs.rules.hash_agrees.Tie as tie
+use Rattle.xxh64.specs.Hash.{xxh64 as hash}
 
 add-to : tie.Need-add-to
 add-to c = search needs

@@ -10,13 +10,6 @@ use native.Mathlib.Omega.{arith}
 use borrow.Author.Needs.{needs}
 use Rattle.search.proofs.rules.lands.Statement.{statement}
 use Rattle.search.proofs.rules.lands.Tie as tie
-use Rattle.search.proofs.rules.lands.Reads as reads
-use Rattle.search.proofs.rules.lands.Lts as lts
-use Rattle.entries.proofs.keys.slot_key.Reads as slot-key-reads
-use Rattle.entries.proofs.read.entry_at.Reads as entry-at-reads
-use Rattle.layout.proofs.read.slot.Reads as slot-reads
-use Rattle.search.proofs.comes_to.Reads as comes-to-reads
-use Rattle.search.proofs.rules.ends_at.Reads as ends-at-reads
 
 slot-requires : tie.Need-slot-requires
 slot-requires c κs = search needs

@@ -4,10 +4,6 @@ use Rattle.lists.proofs.Decides.{decided-true, decided-false}
 use borrow.Author.Needs.{needs}
 use Rattle.search.proofs.rules.slot_fits.Statement.{statement}
 use Rattle.search.proofs.rules.slot_fits.Tie as tie
-use Rattle.search.proofs.rules.slot_fits.Reads as reads
-use Rattle.search.proofs.rules.slot_fits.Lts as lts
-use Rattle.search.proofs.rules.entry_fits.Reads as entry-fits-reads
-use Rattle.search.proofs.rules.lands.Reads as lands-reads
 
 entry-fits-requires : tie.Need-entry-fits-requires
 entry-fits-requires c κs = search needs

@@ -22,7 +22,7 @@ slot-requires c κs =
     let start = c .before .before .before .before .before in
     let z = start .args .z in
     let img = start .args .img .now in
-    record { framed = start .pre .0; tier = tier-met z img (start .pre .2) (start .pre .3) inv; slot = omega arith }
+    record { tier = record { framed = start .pre .0; tierIn = tier-met z img (start .pre .2) (start .pre .3) inv }; slotIn = omega arith }
 
 add-c : tie.Need-add-c Inv-loop μ-loop
 add-c c =
