@@ -1,17 +1,18 @@
 -- The answer by its decision, and how many tiers are chained.
 use Prim.Native.Nat.{ℕ, zero, suc, _+_, _≤_}
 use mathlib.Core.List.{List, _++_, flatMap}
-use mathlib.Core.Path.{_≡_, refl, ap, sym, _∙_}
+use mathlib.Core.Path.{_≡_, ap, sym, _∙_}
 use native.Mathlib.Omega.{arith}
 use native.Mathlib.Numerals.{add-one}
 use lib.ListN.{length, length-append}
 use Rattle.lists.specs.Lists.{below, span}
+use Rattle.lists.proofs.Decides.{choose-by, choose-no, choose-yes}
 use Rattle.lists.proofs.Lists.{flatMap-below}
 use Rattle.settings.specs.declared.Settings.{Settings}
 use Rattle.layout.specs.declared.Shape.{Shape}
 use Rattle.layout.specs.Tiers.{tiers}
 use Rattle.chains.specs.declared.Chains.the-variants.{Fit, Broken}
-use Rattle.chains.specs.Chains.{chain, freeHead, freeChain, chained, chainedExtra, FreeChainFits, ChainsFit, chainsFit?, fromChains, chainsOf}
+use Rattle.chains.specs.Chains.{chain, freeHead, freeChain, chained, chainedExtra, FreeChainFits, ChainsFit, chainsFit?, chainsOf}
 use Rattle.chains.specs.Walk.{Extras, extrasOf, extrasBefore}
 use Rattle.chains.proofs.Segments.{before-none, before-more, before-all, chain-length}
 
@@ -21,33 +22,19 @@ module _ (z : Shape) (img : List ℕ) where
 
   -- ---- the decision
 
-  met : (d : Dec (ChainsFit z img)) → ChainsFit z img → fromChains z img d ≡ Fit (length (chained z img)) (length (freeChain z img))
-  unfolding fromChains
-  met (no n) f = absurd (n f)
-  met (yes _) f = refl
-
-  broken : (d : Dec (ChainsFit z img)) → (ChainsFit z img → ⊥) → fromChains z img d ≡ Broken
-  unfolding fromChains
-  broken (no _) n = refl
-  broken (yes f) n = absurd (n f)
-
   pub chains-fit : ChainsFit z img → chainsOf z img ≡ Fit (length (chained z img)) (length (freeChain z img))
   unfolding chainsOf
-  chains-fit f = met (chainsFit? z img) f
+  chains-fit f = choose-yes (chainsFit? z img) _ _ f
 
   pub chains-broken : (ChainsFit z img → ⊥) → chainsOf z img ≡ Broken
   unfolding chainsOf
-  chains-broken n = broken (chainsFit? z img) n
+  chains-broken n = choose-no (chainsFit? z img) _ _ n
 
   -- nothing else is accepted
-  only : (d : Dec (ChainsFit z img)) (m n : ℕ) → fromChains z img d ≡ Fit m n → ChainsFit z img
-  unfolding fromChains
-  only (no _) m n e = absurd (let q : _≡_ {A = ℕ} 0 1 = cc in omega arith)
-  only (yes f) m n e = f
-
   pub chains-only : (m n : ℕ) → chainsOf z img ≡ Fit m n → ChainsFit z img
   unfolding chainsOf
-  chains-only m n e = only (chainsFit? z img) m n e
+  chains-only m n =
+      choose-by (chainsFit? z img) _ _ (λ x. x ≡ Fit m n → ChainsFit z img) (λ _ e. absurd (let q : _≡_ {A = ℕ} 0 1 = cc in omega arith)) (λ f _. f)
 
   -- ---- how many tiers are chained
 

@@ -6,7 +6,7 @@ use native.Mathlib.Decide.{decLe, decLt, ℕ-discrete}
 use lib.Dec.{eqb}
 use lib.ListN.{length, getD, drop}
 use Rattle.lists.specs.Lists.{span, below, howMany}
-use Rattle.lists.specs.Decide.{both, rule}
+use Rattle.lists.specs.Decide.{both, rule, choose}
 use Rattle.lists.specs.Quantify.{Below, Every, below?, every?}
 use Rattle.links.specs.Links as links
 use Rattle.settings.specs.declared.Settings.{Settings}
@@ -120,9 +120,5 @@ module _ (z : Shape) (img : List ℕ) where
 
   -- ---- the answer: how many tiers are chained, and how many free
 
-  unfoldable pub fromChains : Dec ChainsFit → Chains
-  fromChains (no _) = Broken
-  fromChains (yes _) = Fit (length chained) (length freeChain)
-
   unfoldable pub chainsOf : Chains
-  chainsOf = fromChains chainsFit?
+  chainsOf = choose chainsFit? (λ _. Broken) (λ _. Fit (length chained) (length freeChain))

@@ -10,8 +10,8 @@ ghost use Rattle.layout.specs.Frame.{Framed};
 ghost use Rattle.chains.specs.Chains.{StandsAt, Stands, chainsOf};
 ghost use Rattle.chains.specs.Walk.{Walks, ChainWalks, AllWalk, Counting, CanWalk, CanWalkChain, CanStand, CanAllStand};
 
-// A count for 0 and for each of 1,024 tiers.
-const COUNTS: usize = 1025;
+// A count for 0 and for each tier.
+const COUNTS: usize = layout::MOST_TIERS + 1;
 
 // Whether the chains fit: how many tiers are chained and how many free, or that a rule is broken.
 pub enum Chains {

@@ -6,10 +6,11 @@ use mathlib.Core.Logic.{_≢_}
 use mathlib.Core.Bool.{Bool, true, false, not}
 use mathlib.Core.Option.{Option, none, some}
 use native.Mathlib.Omega.{arith}
-use lib.ListN.{length}
 use borrow.Author.Tests.{not-true}
 use Rattle.lists.specs.Cases.{by-test}
+use Rattle.lists.specs.Decide.{choose}
 use Rattle.lists.specs.Lists.{first, those}
+use Rattle.lists.proofs.Decides.{choose-yes}
 use Rattle.lists.proofs.Members.{those-in, none-first}
 use Rattle.words.specs.Bytes.{Bytes}
 use Rattle.words.proofs.Bytes.{same-true, same-refl, same-false}
@@ -108,13 +109,13 @@ module _ (st : Settings) (m : Map) (key : List ℕ) where
 
     value-zero : (d : Dec (GivenValueFits st (anEntry key value))) → unlessValue st (anEntry key value) m (mapStore m key value row) d .said .number ≡ 0
         → unlessValue st (anEntry key value) m (mapStore m key value row) d .map ≡ mapSet m key value
-    unfolding unlessValue
+    unfolding choose unlessValue
     value-zero (no n) e = absurd (omega arith)
     value-zero (yes v) e = row-zero row e
 
     store-zero : (d : Dec (GivenKeyFits st (anEntry key value))) → unlessKey st (anEntry key value) m (mapStore m key value row) d .said .number ≡ 0
         → unlessKey st (anEntry key value) m (mapStore m key value row) d .map ≡ mapSet m key value
-    unfolding unlessKey
+    unfolding choose unlessKey
     store-zero (no n) e = absurd (omega arith)
     store-zero (yes k) e = value-zero (givenValueFits? st (anEntry key value)) e
 
@@ -125,7 +126,7 @@ module _ (st : Settings) (m : Map) (key : List ℕ) where
 
   remove-zero : (d : Dec (GivenKeyFits st (aKey key))) → unlessKey st (aKey key) m (mapRemove m key (mapGet m key)) d .said .number ≡ 0
       → unlessKey st (aKey key) m (mapRemove m key (mapGet m key)) d .map ≡ mapDrop m key
-  unfolding unlessKey unlessValue givenValueFits?
+  unfolding choose unlessKey unlessValue givenValueFits?
   remove-zero (no n) e = absurd (omega arith)
   remove-zero (yes k) e = found-zero (mapGet m key) e
 
@@ -140,15 +141,13 @@ module _ (block img : List ℕ) (b : Bytes img) (a : Accepted block img) where
 
   -- a lookup
 
-  looks : (key : List ℕ) (d : Dec (GivenKeyFits (z .settings) (aKey key))) → KeyFits (z .settings) (length key)
-      → lookedUp img key (afterKey z (countsOf z img) (aKey key) d) ≡ fromFind (find z img key)
-  unfolding afterKey afterValue givenValueFits? lookedUp
-  looks key (no n) k = absurd (n k)
-  looks key (yes _) k = refl
-
-  lookup-is : (key : List ℕ) → KeyFits (z .settings) (length key) → lookup block img key ≡ fromFind (find z img key)
-  unfolding lookup
-  lookup-is key k = ap (lookedUp img key) (asked-holds block img h (aKey key)) ∙ looks key (givenKeyFits? (z .settings) (aKey key)) k
+  lookup-is : (key : List ℕ) → KeyFits (z .settings) key → lookup block img key ≡ fromFind (find z img key)
+  unfolding lookup lookedUp afterKey afterValue
+  lookup-is key k =
+      ap (lookedUp img key)
+      (asked-holds block img h (aKey key)
+      ∙ choose-yes (givenKeyFits? (z .settings) (aKey key)) _ _ k
+      ∙ choose-yes (givenValueFits? (z .settings) (aKey key)) _ _ tt)
 
   looks-up : (key : List ℕ) → LooksUp block img key
   unfolding fromFind
@@ -157,11 +156,12 @@ module _ (block img : List ℕ) (b : Bytes img) (a : Accepted block img) where
       there : (e : Live) → List·Memᴰ e (live z img) → keyOf img (e .entry) ≡ key
           → lookup block img key ≡ looked.Found (e .entry .valueAt) (e .entry .valueLength)
       there e m k =
-          let fits : KeyFits (z .settings) (length key) = rw k at (live-key-fits z img (h .sound) e (live-in z img e m)) in
+          let fits : KeyFits (z .settings) key = rw k at (live-key-fits z img (h .sound) e (live-in z img e m)) in
           lookup-is key fits ∙ ap fromFind (found-only z img (h .sound) key e m k)
 
-      not-there : KeyFits (settingsOf block) (length key) → mapGet (mapOf block img) key ≡ none → lookup block img key ≡ looked.Absent
-      not-there k g = lookup-is key (subst (λ (st : Settings). KeyFits st (length key)) (sym (shape-settings (settingsOf block) img)) k) ∙ ap fromFind (by-find (find z img key) refl)
+      not-there : KeyFits (settingsOf block) key → mapGet (mapOf block img) key ≡ none → lookup block img key ≡ looked.Absent
+      not-there k g =
+          lookup-is key (subst (λ (st : Settings). KeyFits st key) (sym (shape-settings (settingsOf block) img)) k) ∙ ap fromFind (by-find (find z img key) refl)
         where
           by-find : (o : Option Live) → find z img key ≡ o → o ≡ none
           by-find none f = refl

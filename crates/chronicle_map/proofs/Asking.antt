@@ -1,14 +1,16 @@
 -- The refusals, test by test, as the code asks them.
-use Prim.Native.Nat.{ℕ, _≤_, _<_}
+use Prim.Native.Nat.{ℕ}
 use mathlib.Core.List.{List}
 use mathlib.Core.Path.{_≡_, refl, ap, sym, _∙_}
 use native.Mathlib.Omega.{arith}
 use lib.ListN.{length}
+use Rattle.lists.specs.Decide.{choose}
+use Rattle.lists.proofs.Decides.{choose-no, choose-yes}
 use Rattle.words.specs.Bytes.{Bytes}
 use Rattle.settings.specs.Rules.{Valid}
 use Rattle.layout.specs.declared.Shape.{Shape}
 use Rattle.entries.specs.Keys.{KeyFits}
-use Rattle.entries.specs.Stored.{chunksFor}
+use Rattle.entries.specs.Stored.{ValueFits}
 use Rattle.sound.specs.Sound.{SoundImage}
 use Rattle.edit.specs.Replaced.{Storable}
 use Rattle.image.specs.declared.Counts.{Counts}
@@ -18,39 +20,16 @@ use Rattle.image.specs.declared.Examined.{Examined}
 use Rattle.image.specs.declared.Examined.the-variants.{Ready, Refused}
 use Rattle.image.specs.Check.{examine}
 use Rattle.image.proofs.Ready.{ready-framed}
-use Rattle.chronicle_map.specs.Asked.{Given, nothing, aKey, anEntry, ValueFits, GivenKeyFits, givenKeyFits?, GivenValueFits, givenValueFits?, afterValue, afterKey, afterExamined, asked}
+use Rattle.chronicle_map.specs.Asked.{nothing, aKey, anEntry, GivenKeyFits, givenKeyFits?, GivenValueFits, givenValueFits?, afterValue, afterKey, afterExamined, asked}
 use Rattle.chronicle_map.proofs.Accepting.{ready-sound}
 
 never : {P : Type 0} {s : Stage} {z : Shape} {c : Counts} → Refused s ≡ Ready z c → P
 never e = absurd (let q : _≡_ {A = ℕ} 0 1 = cc in omega arith)
 
--- ---- one decision, by what is known
-
-module _ (z : Shape) (c : Counts) (g : Given) where
-  key-no : (d : Dec (GivenKeyFits (z .settings) g)) → (GivenKeyFits (z .settings) g → ⊥) → Refused Key ≡ afterKey z c g d
-  unfolding afterKey
-  key-no (no _) n = refl
-  key-no (yes k) n = absurd (n k)
-
-  key-yes : (d : Dec (GivenKeyFits (z .settings) g)) → GivenKeyFits (z .settings) g → afterKey z c g d ≡ afterValue z c g (givenValueFits? (z .settings) g)
-  unfolding afterKey
-  key-yes (no n) k = absurd (n k)
-  key-yes (yes _) k = refl
-
-  value-no : (d : Dec (GivenValueFits (z .settings) g)) → (GivenValueFits (z .settings) g → ⊥) → Refused Value ≡ afterValue z c g d
-  unfolding afterValue
-  value-no (no _) n = refl
-  value-no (yes v) n = absurd (n v)
-
-  value-yes : (d : Dec (GivenValueFits (z .settings) g)) → GivenValueFits (z .settings) g → Ready z c ≡ afterValue z c g d
-  unfolding afterValue
-  value-yes (no n) v = absurd (n v)
-  value-yes (yes _) v = refl
-
 -- ---- nothing is given: the check and the list
 
 nothing-by : (x : Examined) → afterExamined nothing x ≡ x
-unfolding afterExamined afterKey afterValue givenKeyFits? givenValueFits?
+unfolding choose afterExamined afterKey afterValue givenKeyFits? givenValueFits?
 nothing-by (Refused s) = refl
 nothing-by (Ready z c) = refl
 
@@ -63,7 +42,7 @@ asked-nothing block img = nothing-by (examine block img)
 -- what of the image and of the key is known when nothing is refused
 pub record KeyReady (block img key : List ℕ) (z : Shape) (c : Counts) : Type 0 where
   pub ready : examine block img ≡ Ready z c
-  pub keyFits : KeyFits (z .settings) (length key)
+  pub keyFits : KeyFits (z .settings) key
 
 module _ (block img key : List ℕ) where
   module _ (x : Examined) (ex : x ≡ examine block img) where
@@ -76,25 +55,25 @@ module _ (block img key : List ℕ) where
       unfolding asked afterExamined
       from-ready = ap (afterExamined (aKey key)) (sym ex ∙ e)
 
-      pub key-short : length key < 1 → Refused Key ≡ asked block img (aKey key)
-      key-short h = key-no z c (aKey key) (givenKeyFits? (z .settings) (aKey key)) (λ k. omega (arith, k)) ∙ sym from-ready
+      pub key-wrong : (KeyFits (z .settings) key → ⊥) → Refused Key ≡ asked block img (aKey key)
+      unfolding afterKey
+      key-wrong n = sym (from-ready ∙ choose-no (givenKeyFits? (z .settings) (aKey key)) _ _ n)
 
-      pub key-long : 1024 < length key → Refused Key ≡ asked block img (aKey key)
-      key-long h = key-no z c (aKey key) (givenKeyFits? (z .settings) (aKey key)) (λ k. omega (arith, k)) ∙ sym from-ready
-
-      pub key-right : 1 ≤ length key → length key ≤ 1024 → Ready z c ≡ asked block img (aKey key)
-      unfolding givenValueFits?
-      key-right a b =
-          value-yes z c (aKey key) (givenValueFits? (z .settings) (aKey key)) tt
-          ∙ sym (from-ready ∙ key-yes z c (aKey key) (givenKeyFits? (z .settings) (aKey key)) (a, b))
+      pub key-right : KeyFits (z .settings) key → Ready z c ≡ asked block img (aKey key)
+      unfolding afterKey afterValue
+      key-right k =
+          sym
+          (from-ready
+          ∙ choose-yes (givenKeyFits? (z .settings) (aKey key)) _ _ k
+          ∙ choose-yes (givenValueFits? (z .settings) (aKey key)) _ _ tt)
 
   ready-key : (z : Shape) (c : Counts) (w : Shape) (d : Counts) (k : Dec (GivenKeyFits (w .settings) (aKey key))) → examine block img ≡ Ready w d
       → afterKey w d (aKey key) k ≡ Ready z c → KeyReady block img key z c
-  unfolding afterKey afterValue givenValueFits?
+  unfolding choose afterKey afterValue givenValueFits?
   ready-key z c w d (no n) e f = never f
   ready-key z c w d (yes k) e f =
       let p : w ≡ z = cc in
-      record { ready = e ∙ f; keyFits = k }
+      record { ready = e ∙ f; keyFits = rw p at k }
 
   ready-by : (z : Shape) (c : Counts) (x : Examined) → examine block img ≡ x → afterExamined (aKey key) x ≡ Ready z c → KeyReady block img key z c
   unfolding afterExamined
@@ -117,7 +96,7 @@ module _ (block img key : List ℕ) where
 module _ (block img key value : List ℕ) where
   -- after the key's refusals come the record's
   entry-by : (x : Examined) (s : Stage) → afterExamined (aKey key) x ≡ Refused s → afterExamined (anEntry key value) x ≡ Refused s
-  unfolding afterExamined afterKey afterValue givenKeyFits? givenValueFits?
+  unfolding choose afterExamined afterKey afterValue givenKeyFits? givenValueFits?
   entry-by (Refused r) s f = f
   entry-by (Ready z c) s f = refused-key (givenKeyFits? (z .settings) (aKey key)) f
     where
@@ -132,40 +111,35 @@ module _ (block img key value : List ℕ) where
 
     module _ (z : Shape) (c : Counts) (e : x ≡ Ready z c) where
       from-key : asked block img (anEntry key value) ≡ afterValue z c (anEntry key value) (givenValueFits? (z .settings) (anEntry key value))
-      unfolding asked afterExamined
+      unfolding asked afterExamined afterKey
       from-key =
           let k : KeyReady block img key z c = key-ready block img key z c ex e in
-          ap (afterExamined (anEntry key value)) (k .ready) ∙ key-yes z c (anEntry key value) (givenKeyFits? (z .settings) (anEntry key value)) (k .keyFits)
+          ap (afterExamined (anEntry key value)) (k .ready) ∙ choose-yes (givenKeyFits? (z .settings) (anEntry key value)) _ _ (k .keyFits)
 
-      pub entry-lengths : length value ≤ 65535 → (length key ≤ 65535) × (length value ≤ 65535)
-      entry-lengths h = (omega (arith, key-ready block img key z c ex e .keyFits), h)
+      pub value-wrong : (ValueFits (z .settings) (length key) (length value) → ⊥) → Refused Value ≡ asked block img (anEntry key value)
+      unfolding afterValue
+      value-wrong n = sym (from-key ∙ choose-no (givenValueFits? (z .settings) (anEntry key value)) _ _ n)
 
-      pub value-long : 65535 < length value → Refused Value ≡ asked block img (anEntry key value)
-      value-long h = value-no z c (anEntry key value) (givenValueFits? (z .settings) (anEntry key value)) (λ v. omega (arith, v .0)) ∙ sym from-key
-
-      module _ (n : ℕ) (en : n ≡ chunksFor (z .settings) (length key) (length value)) where
-        pub too-many : z .settings .mostChunks < n → Refused Value ≡ asked block img (anEntry key value)
-        too-many h = value-no z c (anEntry key value) (givenValueFits? (z .settings) (anEntry key value)) (λ v. omega (arith, v .1, en)) ∙ sym from-key
-
-        pub entry-right : length value ≤ 65535 → n ≤ z .settings .mostChunks → Ready z c ≡ asked block img (anEntry key value)
-        entry-right a b = value-yes z c (anEntry key value) (givenValueFits? (z .settings) (anEntry key value)) (a, omega (arith, en)) ∙ sym from-key
+      pub entry-right : ValueFits (z .settings) (length key) (length value) → Ready z c ≡ asked block img (anEntry key value)
+      unfolding afterValue
+      entry-right v = sym (from-key ∙ choose-yes (givenValueFits? (z .settings) (anEntry key value)) _ _ v)
 
   -- what is known when nothing is refused
   pub record EntryReady (z : Shape) (c : Counts) : Type 0 where
     pub ready : examine block img ≡ Ready z c
-    pub keyFits : KeyFits (z .settings) (length key)
-    pub valueFits : ValueFits (z .settings) key value
+    pub keyFits : KeyFits (z .settings) key
+    pub valueFits : ValueFits (z .settings) (length key) (length value)
 
   ready-entry : (z : Shape) (c : Counts) (w : Shape) (d : Counts) (k : Dec (GivenKeyFits (w .settings) (anEntry key value)))
       (v : Dec (GivenValueFits (w .settings) (anEntry key value)))
       → givenValueFits? (w .settings) (anEntry key value) ≡ v → examine block img ≡ Ready w d → afterKey w d (anEntry key value) k ≡ Ready z c → EntryReady z c
-  unfolding afterKey afterValue
+  unfolding choose afterKey afterValue
   ready-entry z c w d (no n) v q e f = never f
   ready-entry z c w d (yes k) v q e f = last v (ap (afterValue w d (anEntry key value)) (sym q) ∙ f)
     where
       last : (v : Dec (GivenValueFits (w .settings) (anEntry key value))) → afterValue w d (anEntry key value) v ≡ Ready z c → EntryReady z c
       last (no n) g = never g
-      last (yes u) g = let p : w ≡ z = cc in record { ready = e ∙ g; keyFits = k; valueFits = rw p at u }
+      last (yes u) g = let p : w ≡ z = cc in record { ready = e ∙ g; keyFits = rw p at k; valueFits = rw p at u }
 
   entry-ready-by : (z : Shape) (c : Counts) (x : Examined) → examine block img ≡ x → afterExamined (anEntry key value) x ≡ Ready z c → EntryReady z c
   unfolding afterExamined
@@ -183,6 +157,5 @@ module _ (block img key value : List ℕ) where
         record {
           sound = ready-sound block img z c b (entry-ready .ready);
           keyFits = entry-ready .keyFits;
-          valueLong = entry-ready .valueFits .0;
-          notTooMany = entry-ready .valueFits .1;
+          valueFits = entry-ready .valueFits;
         }

@@ -1,13 +1,14 @@
 -- What a crate above the calls needs of them: the check's refusal is every call's, a lookup reads the map, a store leaves bytes.
-use Prim.Native.Nat.{ℕ, _≤_}
+use Prim.Native.Nat.{ℕ}
 use mathlib.Core.List.{List, List·Memᴰ}
 use mathlib.Core.Path.{_≡_, refl, ap, sym, _∙_}
 use mathlib.Core.Option.{Option, none, some}
 use native.Mathlib.Omega.{arith}
-use lib.ListN.{length}
 use Rattle.words.specs.Bytes.{Bytes}
+use Rattle.settings.specs.Block.{settingsOf}
 use Rattle.layout.specs.declared.Shape.{Shape}
 use Rattle.entries.specs.declared.Live.{Live}
+use Rattle.entries.specs.Keys.{KeyFits}
 use Rattle.entries.specs.Stored.{keyOf}
 use Rattle.entries.specs.Live.{live}
 use Rattle.entries.specs.Pairs.{Pair, pairOf, pairsOf}
@@ -89,8 +90,8 @@ module _ (block img : List ℕ) (b : Bytes img) (a : Accepted block img) where
             bytes = ap (λ (x : Pair). x .value) s;
           }
 
-  pub lookup-none : (key : List ℕ) → 1 ≤ length key → length key ≤ 1024 → mapGet (mapOf block img) key ≡ none → lookup block img key ≡ looked.Absent
-  lookup-none key low high g = demand2 block img b a .lookups key .none (low, high) g
+  pub lookup-none : (key : List ℕ) → KeyFits (settingsOf block) key → mapGet (mapOf block img) key ≡ none → lookup block img key ≡ looked.Absent
+  lookup-none key fits g = demand2 block img b a .lookups key .none fits g
 
   -- a store leaves bytes
   pub store-bytes : (key value : List ℕ) → Bytes key → Bytes value → Bytes (store block img key value .image)

@@ -9,7 +9,8 @@ use native.Mathlib.Omega.{arith}
 use lib.ListN.{length, replicate}
 use Rattle.lists.specs.Lists.{span}
 use Rattle.lists.proofs.Lists.{in-span}
-use Rattle.settings.specs.Rules.{Between}
+use Rattle.settings.specs.declared.Settings.{Settings}
+use Rattle.entries.specs.Keys.{KeyFits}
 use Rattle.entries.specs.declared.Live.{Live}
 use Rattle.entries.specs.Live.{live}
 use Rattle.image.specs.declared.Nth.{Nth}
@@ -126,14 +127,14 @@ stored-not-8 img key value (Ready z c) n = by-room (noRoom z img key value)
     by-room true = omega arith
     by-room false = omega arith
 
-module _ (block img key : List ℕ) (fits : Between 1 1024 (length key)) where
+module _ (block img key : List ℕ) (fits : (st : Settings) → KeyFits st key) where
   pub lookup-not-8 : numberOf (lookupNumbers (lookup block img key)) ≢ 8
   unfolding lookup
-  lookup-not-8 = looked-not-8 img key (asked block img (aKey key)) (asked-not-8 block img (aKey key) (λ st. fits))
+  lookup-not-8 = looked-not-8 img key (asked block img (aKey key)) (asked-not-8 block img (aKey key) fits)
 
   pub store-not-8 : (value : List ℕ) → answerNumber (store block img key value .answer) ≢ 8
   unfolding store
-  store-not-8 value = stored-not-8 img key value (asked block img (anEntry key value)) (asked-not-8 block img (anEntry key value) (λ st. fits))
+  store-not-8 value = stored-not-8 img key value (asked block img (anEntry key value)) (asked-not-8 block img (anEntry key value) fits)
 
 -- ---- all of it
 

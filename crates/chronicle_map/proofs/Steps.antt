@@ -5,6 +5,7 @@ use mathlib.Core.Path.{_≡_, refl, ap, sym, _∙_, subst}
 use mathlib.Core.Bool.{Bool, true, false, not}
 use mathlib.Core.Option.{Option, none, some}
 use native.Mathlib.Omega.{arith}
+use Rattle.lists.specs.Decide.{choose}
 use Rattle.lists.specs.Lists.{total}
 use Rattle.words.specs.Bytes.{Bytes, same}
 use Rattle.settings.specs.Block.{settingsOf}
@@ -50,7 +51,7 @@ module _ (block img : List ℕ) (h : Holds block img) (m : Map) (w : Weigh (mapO
 
   lookup-said : (key : List ℕ) (d : Dec (GivenKeyFits (z .settings) (aKey key)))
       → saysOf (afterKey z (countsOf z img) (aKey key) d) key ≡ unlessKey (z .settings) (aKey key) m (mapLookup m (mapGet m key)) d .said
-  unfolding afterKey afterValue givenValueFits? lookedUp recordBytes recordAt recordLength unlessKey unlessValue
+  unfolding choose afterKey afterValue givenValueFits? lookedUp recordBytes recordAt recordLength unlessKey unlessValue
   lookup-said key (no n) = refl
   lookup-said key (yes k) = found-said key (find z img key) refl
 
@@ -60,7 +61,7 @@ module _ (block img : List ℕ) (h : Holds block img) (m : Map) (w : Weigh (mapO
   found-map key (some p) = refl
 
   lookup-map : (key : List ℕ) (d : Dec (GivenKeyFits (z .settings) (aKey key))) → unlessKey (z .settings) (aKey key) m (mapLookup m (mapGet m key)) d .map ≡ m
-  unfolding unlessKey unlessValue givenValueFits?
+  unfolding choose unlessKey unlessValue givenValueFits?
   lookup-map key (no n) = refl
   lookup-map key (yes k) = found-map key (mapGet m key)
 
@@ -91,7 +92,7 @@ module _ (block img : List ℕ) (h : Holds block img) (m : Map) (w : Weigh (mapO
 
   remove-agrees : (key : List ℕ) (d : Dec (GivenKeyFits (z .settings) (aKey key)))
       → Agrees (removing img key (afterKey z (countsOf z img) (aKey key) d)) (unlessKey (z .settings) (aKey key) m (mapRemove m key (mapGet m key)) d)
-  unfolding afterKey afterValue givenValueFits? removing unlessKey unlessValue
+  unfolding choose afterKey afterValue givenValueFits? removing unlessKey unlessValue
   remove-agrees key (no n) = record { said = refl; holds = h; weighs = w }
   remove-agrees key (yes k) = removed key (find z img key) (mapGet m key) refl refl
 
@@ -101,7 +102,7 @@ module _ (block img : List ℕ) (h : Holds block img) (m : Map) (w : Weigh (mapO
     unfolding storeUnless mapStore mapDrop hasKey total
     stored k v true e = record { said = refl; holds = h; weighs = w }
     stored k v false e =
-        let s : Storable z img key value = record { sound = h .sound; keyFits = k; valueLong = v .0; notTooMany = v .1 } in
+        let s : Storable z img key value = record { sound = h .sound; keyFits = k; valueFits = v } in
         let after : SoundImage z (storeImage z img key value) = store-sound z img key value s keyBytes valueBytes e in
         record {
           said = refl;
@@ -117,14 +118,14 @@ module _ (block img : List ℕ) (h : Holds block img) (m : Map) (w : Weigh (mapO
         → noRoom z img key value ≡ b
         → Agrees (storing img key value (afterValue z (countsOf z img) (anEntry key value) d))
         (unlessValue (z .settings) (anEntry key value) m (mapStore m key value b) d)
-    unfolding afterValue storing unlessValue
+    unfolding choose afterValue storing unlessValue
     store-value k (no n) b e = record { said = refl; holds = h; weighs = w }
     store-value k (yes v) b e = rw e (stored k v b e)
 
     store-agrees : (d : Dec (GivenKeyFits (z .settings) (anEntry key value))) → (b : Bool) → noRoom z img key value ≡ b
         → Agrees (storing img key value (afterKey z (countsOf z img) (anEntry key value) d))
         (unlessKey (z .settings) (anEntry key value) m (mapStore m key value b) d)
-    unfolding afterKey storing unlessKey
+    unfolding choose afterKey storing unlessKey
     store-agrees (no n) b e = record { said = refl; holds = h; weighs = w }
     store-agrees (yes k) b e = store-value k (givenValueFits? (z .settings) (anEntry key value)) b e
 

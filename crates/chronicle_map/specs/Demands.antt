@@ -93,7 +93,7 @@ pub record Fits (block img : List ℕ) : Type 0 where
 pub record LooksUp (block img key : List ℕ) : Type 0 where
   pub stored : (e : Live) → List·Memᴰ e (live (shape block img) img) → keyOf img (e .entry) ≡ key
       → lookup block img key ≡ looked.Found (e .entry .valueAt) (e .entry .valueLength)
-  pub none : KeyFits (settingsOf block) (length key) → mapGet (mapOf block img) key ≡ none → lookup block img key ≡ looked.Absent
+  pub none : KeyFits (settingsOf block) key → mapGet (mapOf block img) key ≡ none → lookup block img key ≡ looked.Absent
 
 -- an image that reads as the same map with only this key altered
 pub record Alters (block img img′ key : List ℕ) (p : Option Pair) : Type 0 where

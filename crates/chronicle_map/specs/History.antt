@@ -3,6 +3,7 @@ use Prim.Native.Nat.{ℕ}
 use mathlib.Core.List.{List, [], _∷_}
 use mathlib.Core.Bool.{Bool, true, false, not}
 use mathlib.Core.Option.{Option, none, some}
+use Rattle.lists.specs.Decide.{choose}
 use Rattle.lists.specs.Lists.{first, those}
 use Rattle.words.specs.Bytes.{same}
 use Rattle.settings.specs.declared.Settings.{Settings}
@@ -100,12 +101,10 @@ mapStore m key value false = saying 0 [] (mapSet m key value)
 
 -- where 8 or 9 applies, the lower is answered and the map stays
 unfoldable pub unlessValue : (st : Settings) (g : Given) → Map → Recalled → Dec (GivenValueFits st g) → Recalled
-unlessValue st g m r (no _) = saying 9 [] m
-unlessValue st g m r (yes _) = r
+unlessValue st g m r d = choose d (λ _. saying 9 [] m) (λ _. r)
 
 unfoldable pub unlessKey : (st : Settings) (g : Given) → Map → Recalled → Dec (GivenKeyFits st g) → Recalled
-unlessKey st g m r (no _) = saying 8 [] m
-unlessKey st g m r (yes _) = unlessValue st g m r (givenValueFits? st g)
+unlessKey st g m r d = choose d (λ _. saying 8 [] m) (λ _. unlessValue st g m r (givenValueFits? st g))
 
 unfoldable pub unless : Settings → Given → Map → Recalled → Recalled
 unless st g m r = unlessKey st g m r (givenKeyFits? st g)

@@ -1,4 +1,5 @@
 // The calls over a lent image. Each takes any bytes, checks them itself, and answers.
+use entries::ValueSize;
 use image::Examined;
 use image::Listed;
 use image::Stage;
@@ -9,12 +10,13 @@ ghost use mathlib.Core.Path.{_≡_};
 ghost use Prim.Native.Nat.{_≤_};
 ghost use lib.ListN.{length};
 ghost use Rattle.entries.specs.Keys.{KeyFits};
+ghost use Rattle.entries.specs.Stored.{ValueFits};
 ghost use Rattle.sound.specs.Sound.{SoundImage};
 ghost use Rattle.edit.specs.Edits.{find, noRoom};
 ghost use Rattle.edit.specs.Replaced.{Storable};
 ghost use Rattle.image.specs.Check.{check as Check·check};
 ghost use Rattle.image.specs.List.{entry as List·entry};
-ghost use Rattle.chronicle_map.specs.Asked.{ValueFits, aKey, anEntry, asked};
+ghost use Rattle.chronicle_map.specs.Asked.{aKey, anEntry, asked};
 ghost use Rattle.chronicle_map.specs.Calls.{fromFind, lookup as Calls·lookup, RecordOf, Edited, removeFound, remove as Calls·remove, storeUnless, store as Calls·store};
 
 // A lookup's answer: where the record stands and how long it is; none; a refusal.
@@ -54,10 +56,7 @@ fn asked_key(block: &[u8], img: &[u8], key: &[u8]) -> Examined
     let Examined::Ready(z, c) = examined else {
         return examined;
     };
-    if key.len() < 1 {
-        return Examined::Refused(Stage::Key);
-    }
-    if 1024 < key.len() {
+    if !entries::key_fits(z.settings, key) {
         return Examined::Refused(Stage::Key);
     }
     Examined::Ready(z, c)
@@ -71,13 +70,10 @@ fn asked_entry(block: &[u8], img: &[u8], key: &[u8], value: &[u8]) -> Examined
     let Examined::Ready(z, c) = asked else {
         return asked;
     };
-    if 65535 < value.len() {
-        return Examined::Refused(Stage::Value);
+    match entries::value_fits(z.settings, key.len(), value.len()) {
+        ValueSize::Fits(_) => Examined::Ready(z, c),
+        ValueSize::Broken => Examined::Refused(Stage::Value),
     }
-    if z.settings.mostChunks < entries::chunks_for(z.settings, key.len(), value.len()) {
-        return Examined::Refused(Stage::Value);
-    }
-    Examined::Ready(z, c)
 }
 
 // Where the record of the whole key stands in an accepted image.

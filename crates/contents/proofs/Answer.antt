@@ -1,9 +1,10 @@
 -- What the tiers hold, from the answers of the chains and of the free tiers.
 use Prim.Native.Nat.{ℕ}
 use mathlib.Core.List.{List}
-use mathlib.Core.Path.{_≡_, refl, ap₂, sym, _∙_}
+use mathlib.Core.Path.{_≡_, ap₂, sym, _∙_}
 use native.Mathlib.Omega.{arith}
 use lib.ListN.{length}
+use Rattle.lists.proofs.Decides.{choose-no, choose-yes}
 use Rattle.layout.specs.declared.Shape.{Shape}
 use Rattle.layout.specs.Frame.{Image}
 use Rattle.chains.specs.Chains.{chained}
@@ -14,38 +15,19 @@ use Rattle.search.proofs.Fitting.{all-right, entries-land}
 use Rattle.chunks.specs.Chunks.{ChunksFit, chunksFit?, markedChunks}
 use Rattle.contents.specs.declared.Contents.{Contents}
 use Rattle.contents.specs.declared.Contents.the-variants.{Fit, BadChunks, BadEntries}
-use Rattle.contents.specs.Contents.{fromChunks, fromEntries, contentsOf}
+use Rattle.contents.specs.Contents.{contentsOf}
 use Rattle.contents.specs.Counting.{Says, joined, AllSay, FreeSays}
 use Rattle.contents.proofs.Saying.{both-say, says-as}
 
 module _ (z : Shape) (img : List ℕ) where
   -- ---- by what holds
 
-  entries-no : (d : Dec (EntriesFit z img)) → (EntriesFit z img → ⊥) → fromEntries z img d ≡ BadEntries
-  unfolding fromEntries
-  entries-no (no _) n = refl
-  entries-no (yes f) n = absurd (n f)
-
-  entries-yes : (d : Dec (EntriesFit z img)) → EntriesFit z img → fromEntries z img d ≡ fromChunks z img (chunksFit? z img)
-  unfolding fromEntries
-  entries-yes (no n) f = absurd (n f)
-  entries-yes (yes _) f = refl
-
-  chunks-no : (d : Dec (ChunksFit z img)) → (ChunksFit z img → ⊥) → fromChunks z img d ≡ BadChunks
-  unfolding fromChunks
-  chunks-no (no _) n = refl
-  chunks-no (yes f) n = absurd (n f)
-
-  chunks-yes : (d : Dec (ChunksFit z img)) → ChunksFit z img → fromChunks z img d ≡ Fit (length (live z img)) (markedChunks z img)
-  unfolding fromChunks
-  chunks-yes (no n) f = absurd (n f)
-  chunks-yes (yes _) f = refl
-
   told : (r : Contents) → Says (EntriesFit z img) (ChunksFit z img) (length (live z img)) (markedChunks z img) r → r ≡ contentsOf z img
   unfolding contentsOf
-  told BadEntries p = sym (entries-no (entriesFit? z img) (p .so))
-  told BadChunks p = sym (entries-yes (entriesFit? z img) (p .so .0) ∙ chunks-no (chunksFit? z img) (p .so .1))
-  told (Fit a b) p = ap₂ Fit (p .so .1 .0) (p .so .1 .1) ∙ sym (entries-yes (entriesFit? z img) (p .so .0 .0) ∙ chunks-yes (chunksFit? z img) (p .so .0 .1))
+  told BadEntries p = sym (choose-no (entriesFit? z img) _ _ (p .so))
+  told BadChunks p = sym (choose-yes (entriesFit? z img) _ _ (p .so .0) ∙ choose-no (chunksFit? z img) _ _ (p .so .1))
+  told (Fit a b) p =
+      ap₂ Fit (p .so .1 .0) (p .so .1 .1) ∙ sym (choose-yes (entriesFit? z img) _ _ (p .so .0 .0) ∙ choose-yes (chunksFit? z img) _ _ (p .so .0 .1))
 
   -- ---- as the code has it
 

@@ -88,9 +88,9 @@ fn tier_contents(z: Shape, img: &[u8], s: usize, t: usize) -> Contents
     if !search::rules::some_empty(z, img, t) {
         return Contents::BadEntries;
     }
-    let mut list = [0u16; 4096];
+    let mut list = [0u16; settings::MOST_TIER_SLOTS];
     let full = list_full(z, img, t, &mut list);
-    let mut covered = [0u16; 4096];
+    let mut covered = [0u16; settings::MOST_TIER_CHUNKS];
     if !cover(z, img, s, t, &list, full, &mut covered) {
         return Contents::BadEntries;
     }

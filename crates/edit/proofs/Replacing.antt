@@ -24,11 +24,11 @@ use Rattle.entries.specs.Asking.{Lengths}
 use Rattle.search.specs.declared.Found.{Found}
 use Rattle.search.specs.declared.Found.the-variants.{At, Absent}
 use Rattle.search.specs.Search.{search, ChainTiers}
-use Rattle.search.specs.Rules.{EntryFits}
+use Rattle.search.specs.Rules.{EntryFits, keyAt}
 use Rattle.sound.specs.Sound.{SoundWith, SoundImage}
 use Rattle.counters.specs.Recount.{recount, settle, touched}
 use Rattle.sound.proofs.Sound.{sound-image}
-use Rattle.sound.proofs.Marked.{entry-inside, entry-long}
+use Rattle.sound.proofs.Marked.{entry-inside}
 use Rattle.removal.specs.Removal.{removeAt}
 use Rattle.placement.specs.declared.Old.{Old}
 use Rattle.placement.specs.Placement.{placeAt}
@@ -102,12 +102,9 @@ module _ (z : Shape) (img : List ℕ) (sound : SoundImage z img) where
       subst (λ (x : Live). x .entry .valueAt + x .entry .valueLength ≤ length img) (sym (l .is))
       (entry-inside z img (e .segment) (e .tier) (e .slot) (sound-image z img sound) (live-tier e l) (live-fits e l) .1)
 
-  pub live-key-fits : (e : Live) → IsLive z img e → KeyFits settings (length (keyOf img (e .entry)))
-  unfolding liveAt
-  live-key-fits e l =
-      let n : length (keyOf img (entryAt z img (e .tier) (e .slot))) ≡ entryAt z img (e .tier) (e .slot) .keyLength =
-      entry-long z img (e .segment) (e .tier) (e .slot) (sound-image z img sound) (live-tier e l) (live-fits e l) .0 in
-      subst (λ (x : Live). KeyFits settings (length (keyOf img (x .entry)))) (sym (l .is)) (rw n (live-fits e l .keyLength))
+  pub live-key-fits : (e : Live) → IsLive z img e → KeyFits settings (keyOf img (e .entry))
+  unfolding liveAt keyAt
+  live-key-fits e l = subst (λ (x : Live). KeyFits settings (keyOf img (x .entry))) (sym (l .is)) (live-fits e l .keyFits)
 
   module _ (key : List ℕ) where
     found-live : (e : Live) → find z img key ≡ some e → IsLive z img e

@@ -39,7 +39,7 @@ use Rattle.edit.proofs.Storing.{fits-at, fits-free}
 pub some-chunks : {z : Shape} {img key value : List ℕ} → Storable z img key value → (n : ℕ) → n ≡ chunksFor (z .settings) (length key) (length value)
     → 0 < n
 some-chunks {z} {img} {key} {value} w n e =
-    rw e (chunks-pos (z .settings) (length key) (length value) (omega (arith, w .keyFits)) (omega (arith, w .valueLong)) (w .sound .fits .valid))
+    rw e (chunks-pos (z .settings) (length key) (length value) (omega (arith, w .keyFits .notLonger)) (omega (arith, w .valueFits .notLonger)) (w .sound .fits .valid))
 
 -- a sound image with a free tier uses fewer than 1,024
 used-few : {C : Type 0} (z : Shape) (img : List ℕ) → SoundWith C z img → (s : ℕ) → s < z .settings .segments → freeHead z img ≢ 0

@@ -100,9 +100,8 @@ module _ (z : Shape) (img : List ℕ) (key value : List ℕ) (w : Storable z img
         tierIn = r .0;
         keyBytes = keyBytes;
         valueBytes = valueBytes;
-        keyLong = w .keyFits;
-        valueLong = w .valueLong;
-        notTooMany = w .notTooMany;
+        keyFits = w .keyFits;
+        valueFits = w .valueFits;
         segmentIs = refl;
         roomy = r .1;
         rangeEnds = r .2;
@@ -120,13 +119,12 @@ module _ (z : Shape) (img : List ℕ) (key value : List ℕ) (w : Storable z img
         tierIn = join-in z img₁ s hs sound₁ ne;
         keyBytes = keyBytes;
         valueBytes = valueBytes;
-        keyLong = w .keyFits;
-        valueLong = w .valueLong;
-        notTooMany = w .notTooMany;
+        keyFits = w .keyFits;
+        valueFits = w .valueFits;
         segmentIs = refl;
         roomy = omega (arith, join-empty z img₁ s hs sound₁ ne, sound .fits .valid .slots);
-        rangeEnds = omega (arith, w .notTooMany, sound .fits .valid .mostChunks);
-        clearRun = λ i a b. join-clear z img₁ s hs sound₁ ne i (omega (arith, w .notTooMany, sound .fits .valid .mostChunks));
+        rangeEnds = omega (arith, w .valueFits .notTooMany, sound .fits .valid .mostChunks);
+        clearRun = λ i a b. join-clear z img₁ s hs sound₁ ne i (omega (arith, w .valueFits .notTooMany, sound .fits .valid .mostChunks));
         absent = join-absent z img₁ s hs sound₁ ne key (without-absent z img sound key s hs);
       }
 

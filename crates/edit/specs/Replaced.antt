@@ -12,7 +12,7 @@ use Rattle.layout.specs.Tiers.{IsTier}
 use Rattle.layout.specs.Frame.{Framed}
 use Rattle.entries.specs.declared.Live.{Live}
 use Rattle.entries.specs.Keys.{KeyFits}
-use Rattle.entries.specs.Stored.{chunksFor}
+use Rattle.entries.specs.Stored.{ValueFits}
 use Rattle.sound.specs.Sound.{SoundImage}
 use Rattle.counters.specs.Recount.{settle, touched}
 use Rattle.removal.specs.Removal.{removeAt}
@@ -56,9 +56,8 @@ Stores z img key value false img′ = (noRoom z img key value ≡ true) × (img�
 -- what a store asks for
 pub record Storable (z : Shape) (img key value : List ℕ) : Type 0 where
   pub sound : SoundImage z img
-  pub keyFits : KeyFits (z .settings) (length key)
-  pub valueLong : length value ≤ 65535
-  pub notTooMany : chunksFor (z .settings) (length key) (length value) ≤ z .settings .mostChunks
+  pub keyFits : KeyFits (z .settings) key
+  pub valueFits : ValueFits (z .settings) (length key) (length value)
 
 -- what its two ends ask for, once the place is known
 pub record Replaces (z : Shape) (img : List ℕ) (old : Old) (t c : ℕ) (key value : List ℕ) : Type 0 where

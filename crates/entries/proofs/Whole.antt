@@ -11,7 +11,7 @@ use Rattle.lists.specs.Cases.{lt-or}
 use Rattle.words.specs.Bytes.{cut}
 use Rattle.leb128.specs.declared.Decoded.{Decoded}
 use Rattle.leb128.specs.declared.Decoded.the-variants.{Number, Refused}
-use Rattle.leb128.specs.Leb128.{encode, decode, largestLength, largestLength, EncodedAt}
+use Rattle.leb128.specs.Leb128.{encode, decode, largestLength, EncodedAt}
 use Rattle.leb128.proofs.Encode.{length-encode}
 use Rattle.leb128.proofs.Decode.{decode-end, decode-sound, decode-complete}
 use Rattle.settings.specs.declared.Settings.{Settings}

@@ -1,15 +1,27 @@
 -- Keys, their hashes, and what a slot holds.
-use Prim.Native.Nat.{ℕ, _+_, _-_, _*_, _/_, _%_, _^_}
+use Prim.Native.Nat.{ℕ, _+_, _-_, _*_, _/_, _%_, _^_, _≤_}
 use mathlib.Core.List.{List}
 use mathlib.Core.Bool.{true, false}
+use native.Mathlib.Decide.{decLe}
 use lib.Dec.{eqb}
+use lib.ListN.{length}
+use Rattle.lists.specs.Decide.{rule}
 use Rattle.settings.specs.declared.Settings.{Settings}
-use Rattle.settings.specs.Rules.{Between}
 use Rattle.xxh64.specs.Hash.{xxh64}
 
--- keys have 1 to 1,024 bytes
-abbrev pub KeyFits : Settings → ℕ → Type 0
-KeyFits st k = Between 1 1024 k
+-- which bytes are a key: refusals 6, of a stored one, and 8, of a given one
+abbrev pub longestKey : ℕ
+longestKey = 1024
+
+pub record KeyFits (st : Settings) (key : List ℕ) : Type 0 where
+  pub someByte : 1 ≤ length key
+  pub notLonger : length key ≤ longestKey
+
+unfoldable pub keyFits? : (st : Settings) (key : List ℕ) → Dec (KeyFits st key)
+keyFits? st key =
+    rule (λ f. f .someByte) (decLe 1 (length key)) λ a.
+    rule (λ f. f .notLonger) (decLe (length key) longestKey) λ b.
+    yes (record { someByte = a; notLonger = b })
 
 module _ (st : Settings) where
   open Settings st using (segments, slots, keyBits, chunkBits)

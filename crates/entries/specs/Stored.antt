@@ -1,7 +1,10 @@
 -- A stored entry: key length, key, value length, value. Offsets are in the image.
-use Prim.Native.Nat.{ℕ, _+_}
+use Prim.Native.Nat.{ℕ, _+_, _≤_}
 use mathlib.Core.List.{List, _++_}
+use mathlib.Core.Path.{_≡_}
+use native.Mathlib.Decide.{decLe}
 use lib.ListN.{length, take}
+use Rattle.lists.specs.Decide.{rule}
 use Rattle.lists.specs.Lists.{ceil}
 use Rattle.words.specs.Bytes.{cut}
 use Rattle.leb128.specs.declared.Decoded.{Decoded}
@@ -13,6 +16,8 @@ use Rattle.layout.specs.Places.{chunkAt}
 use Rattle.entries.specs.declared.Entry.{Entry}
 use Rattle.entries.specs.declared.Stored.{Stored}
 use Rattle.entries.specs.declared.Stored.the-variants.{Whole, Broken}
+use Rattle.entries.specs.declared.ValueSize.{ValueSize}
+use Rattle.entries.specs.declared.ValueSize.the-variants as size
 
 -- ---- an entry's size, by the lengths of its key and value
 
@@ -25,6 +30,25 @@ entrySize st k v = valueOffset st k v + v
 
 unfoldable pub chunksFor : Settings → ℕ → ℕ → ℕ
 chunksFor st k v = ceil (entrySize st k v) (st .chunkSize)
+
+-- which values may stand under a key, by the two lengths: refusals 6, of a stored one, and 9, of a given one
+abbrev pub longestValue : ℕ
+longestValue = 65535
+
+pub record ValueFits (st : Settings) (k v : ℕ) : Type 0 where
+  pub notLonger : v ≤ longestValue
+  pub notTooMany : chunksFor st k v ≤ st .mostChunks
+
+unfoldable pub valueFits? : (st : Settings) (k v : ℕ) → Dec (ValueFits st k v)
+valueFits? st k v =
+    rule (λ f. f .notLonger) (decLe v longestValue) λ a.
+    rule (λ f. f .notTooMany) (decLe (chunksFor st k v) (st .mostChunks)) λ b.
+    yes (record { notLonger = a; notTooMany = b })
+
+-- a value that fits, with the chunks that its entry covers, or one that does not
+abbrev pub SizeSays : Settings → ℕ → ℕ → ValueSize → Type 0
+SizeSays st k v (size.Fits n) = ValueFits st k v × (n ≡ chunksFor st k v)
+SizeSays st k v size.Broken = ValueFits st k v → ⊥
 
 -- its bytes
 unfoldable pub entryBytes : Settings → List ℕ → List ℕ → List ℕ

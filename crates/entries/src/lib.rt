@@ -6,9 +6,17 @@ pub mod read;
 
 ghost use mathlib.Core.Path.{_≡_};
 ghost use Prim.Native.Nat.{_+_, _≤_};
+ghost use Rattle.lists.specs.Decide.{Decides};
 ghost use Rattle.leb128.specs.Leb128.{largestLength};
-ghost use Rattle.entries.specs.Stored.{valueOffset, chunksFor};
+ghost use Rattle.settings.specs.Rules.{Valid};
+ghost use Rattle.entries.specs.Keys.{KeyFits};
+ghost use Rattle.entries.specs.Stored.{valueOffset, chunksFor, SizeSays};
 ghost use Rattle.entries.specs.Asking.{Lengths, Measures};
+
+// The most bytes of a key and of a value.
+pub const LONGEST_KEY: usize = 1024;
+
+pub const LONGEST_VALUE: usize = 65535;
 
 // Where a stored entry's key and value stand in the image, and how long they are.
 pub struct Entry {
@@ -24,6 +32,12 @@ pub enum Stored {
     Broken,
 }
 
+// A value that fits, with the chunks that its entry covers, or one that does not.
+pub enum ValueSize {
+    Fits(usize),
+    Broken,
+}
+
 // A live entry: its segment, tier, slot, first chunk, the chunks that it covers, and the stored entry.
 pub struct Live {
     pub segment: usize,
@@ -32,6 +46,19 @@ pub struct Live {
     pub chunk: usize,
     pub chunks: usize,
     pub entry: Entry,
+}
+
+// Whether these bytes are a key.
+pub fn key_fits(st: Settings, key: &[u8]) -> bool
+    ensures { λ r. ⌜ Decides r (KeyFits st (now (key .entry))) ⌝ }
+{
+    if key.len() < 1 {
+        return false;
+    }
+    if LONGEST_KEY < key.len() {
+        return false;
+    }
+    true
 }
 
 // Where the value starts, after the entry's first byte, by the lengths of key and value.
@@ -53,4 +80,19 @@ pub fn chunks_for(st: Settings, k: usize, v: usize) -> usize
         return 1;
     }
     (size + st.chunkSize - 1) / st.chunkSize
+}
+
+// Whether a value of v bytes may stand under a key of k bytes.
+pub fn value_fits(st: Settings, k: usize, v: usize) -> ValueSize
+    requires { ⌜ Valid st × (k ≤ largestLength) ⌝ }
+    ensures { λ r. ⌜ SizeSays st k v r ⌝ }
+{
+    if LONGEST_VALUE < v {
+        return ValueSize::Broken;
+    }
+    let n = chunks_for(st, k, v);
+    if st.mostChunks < n {
+        return ValueSize::Broken;
+    }
+    ValueSize::Fits(n)
 }

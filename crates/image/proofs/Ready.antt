@@ -4,6 +4,8 @@ use mathlib.Core.List.{List}
 use mathlib.Core.Path.{_≡_, refl, sym, _∙_, ap, subst}
 use native.Mathlib.Omega.{arith}
 use lib.ListN.{length}
+use Rattle.lists.specs.Decide.{choose}
+use Rattle.lists.proofs.Decides.{choose-yes}
 use Rattle.settings.specs.declared.Settings.{Settings}
 use Rattle.settings.specs.declared.Parsed.{Parsed}
 use Rattle.settings.specs.declared.Parsed.the-variants.{Accepted, BadBlock, BadField}
@@ -23,7 +25,6 @@ use Rattle.image.specs.declared.Stage.{Stage}
 use Rattle.image.specs.declared.Counts.{Counts}
 use Rattle.image.specs.declared.Examined.the-variants.{Ready, Refused}
 use Rattle.image.specs.Check.{countsOf, afterChunks, afterEntries, afterChains, afterFrame, afterBlock, examine}
-use Rattle.image.proofs.Stages.{frame-yes, chains-yes, entries-yes, chunks-yes}
 
 refused-ready : {A : Type 0} {k : Stage} {z : Shape} {c : Counts} → Refused k ≡ Ready z c → A
 refused-ready {A} {k} {z} {c} e = absurd (let q : _≡_ {A = ℕ} 0 1 = cc in omega arith)
@@ -39,14 +40,14 @@ module _ (block img : List ℕ) where
   -- it is accepted, with its shape and its counts
 
   pub fitting-ready : (z : Shape) → Fitting z → examine block img ≡ Ready z (countsOf z img)
-  unfolding examine afterBlock shapeOf
+  unfolding examine afterBlock afterFrame afterChains afterEntries afterChunks shapeOf
   fitting-ready z f =
       ap (afterBlock img) (parse-accepts block (f .blockFits) (subst (λ (x : Shape). Valid (x .settings)) (f .shape) (f .image .valid)))
       ∙ rw (← f .shape)
-      (frame-yes z img (frameFits? z img) (f .image .frame)
-      ∙ chains-yes z img (chainsFit? z img) (f .image .chains)
-      ∙ entries-yes z img (entriesFit? z img) (f .image .entries)
-      ∙ chunks-yes z img (chunksFit? z img) (f .image .chunks))
+      (choose-yes (frameFits? z img) _ _ (f .image .frame)
+      ∙ choose-yes (chainsFit? z img) _ _ (f .image .chains)
+      ∙ choose-yes (entriesFit? z img) _ _ (f .image .entries)
+      ∙ choose-yes (chunksFit? z img) _ _ (f .image .chunks))
 
   -- ---- and no other is
 
@@ -54,22 +55,22 @@ module _ (block img : List ℕ) where
   module _ (z : Shape) (c : Counts) (x : Shape) (valid : Valid (x .settings)) where
     from-chunks : FrameFits x img → ChainsFit x img → EntriesFit x img → (d : Dec (ChunksFit x img)) → afterChunks x img d ≡ Ready z c
         → (z ≡ x) × ImageFits x img
-    unfolding afterChunks
+    unfolding afterChunks choose
     from-chunks f a b (no _) e = refused-ready e
     from-chunks f a b (yes g) e = (cc, record { valid = valid; frame = f; chains = a; entries = b; chunks = g })
 
     from-entries : FrameFits x img → ChainsFit x img → (d : Dec (EntriesFit x img)) → afterEntries x img d ≡ Ready z c → (z ≡ x) × ImageFits x img
-    unfolding afterEntries
+    unfolding afterEntries choose
     from-entries f a (no _) e = refused-ready e
     from-entries f a (yes b) e = from-chunks f a b (chunksFit? x img) e
 
     from-chains : FrameFits x img → (d : Dec (ChainsFit x img)) → afterChains x img d ≡ Ready z c → (z ≡ x) × ImageFits x img
-    unfolding afterChains
+    unfolding afterChains choose
     from-chains f (no _) e = refused-ready e
     from-chains f (yes a) e = from-entries f a (entriesFit? x img) e
 
     from-frame : (d : Dec (FrameFits x img)) → afterFrame x img d ≡ Ready z c → (z ≡ x) × ImageFits x img
-    unfolding afterFrame
+    unfolding afterFrame choose
     from-frame (no _) e = refused-ready e
     from-frame (yes f) e = from-chains f (chainsFit? x img) e
 

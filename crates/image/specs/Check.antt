@@ -2,6 +2,7 @@
 use Prim.Native.Nat.{ℕ}
 use mathlib.Core.List.{List, [], _∷_}
 use lib.ListN.{length}
+use Rattle.lists.specs.Decide.{choose}
 use Rattle.settings.specs.declared.Parsed.{Parsed}
 use Rattle.settings.specs.declared.Parsed.the-variants.{Accepted as parsed, BadBlock, BadField}
 use Rattle.settings.specs.Block.{parse}
@@ -38,20 +39,16 @@ countsOf z img =
 -- ---- stage by stage
 
 unfoldable pub afterChunks : (z : Shape) (img : List ℕ) → Dec (ChunksFit z img) → Examined
-afterChunks z img (no _) = Refused Chunks
-afterChunks z img (yes _) = Ready z (countsOf z img)
+afterChunks z img d = choose d (λ _. Refused Chunks) (λ _. Ready z (countsOf z img))
 
 unfoldable pub afterEntries : (z : Shape) (img : List ℕ) → Dec (EntriesFit z img) → Examined
-afterEntries z img (no _) = Refused Entries
-afterEntries z img (yes _) = afterChunks z img (chunksFit? z img)
+afterEntries z img d = choose d (λ _. Refused Entries) (λ _. afterChunks z img (chunksFit? z img))
 
 unfoldable pub afterChains : (z : Shape) (img : List ℕ) → Dec (ChainsFit z img) → Examined
-afterChains z img (no _) = Refused Chains
-afterChains z img (yes _) = afterEntries z img (entriesFit? z img)
+afterChains z img d = choose d (λ _. Refused Chains) (λ _. afterEntries z img (entriesFit? z img))
 
 unfoldable pub afterFrame : (z : Shape) (img : List ℕ) → Dec (FrameFits z img) → Examined
-afterFrame z img (no _) = Refused Frame
-afterFrame z img (yes _) = afterChains z img (chainsFit? z img)
+afterFrame z img d = choose d (λ _. Refused Frame) (λ _. afterChains z img (chainsFit? z img))
 
 unfoldable pub afterBlock : List ℕ → Parsed → Examined
 afterBlock img BadBlock = Refused Block

@@ -11,10 +11,8 @@ use Rattle.lists.specs.Cases.{lt-or, same-or}
 use Rattle.settings.specs.declared.Settings.{Settings}
 use Rattle.layout.specs.declared.Shape.{Shape}
 use Rattle.layout.specs.Tiers.{mains, storeEnd, tierAt}
-use Rattle.layout.specs.Places.{Global, bulkCount, firstFree, usedTiers, headersOffset, storeSize, Header, entryCount, lowestFree, nextTier}
-use Rattle.layout.specs.Places.{Counter, next, previous, low, segment, order, count, Part, slot, counter, free, byte, Place, global, header, tier}
-use Rattle.layout.specs.Places.{fieldAt, globalNo, globalWidths, headerNo, headerWidths, counterNo, counterWidths, partAt, partWide, PartIn, at, wide, In}
-use Rattle.layout.specs.Frame.{Framed}
+use Rattle.layout.specs.Places.{Global, bulkCount, firstFree, usedTiers, headersOffset, storeSize, Header, entryCount, lowestFree, nextTier, Counter, next, previous, low, segment, order, count, Part, slot, counter, free, byte, Place, global, header, tier, fieldAt, globalNo, globalWidths, headerNo, headerWidths, counterNo, counterWidths, partAt, partWide, PartIn, at, wide, In}
+use Rattle.layout.specs.Frame.{Framed, globalSize}
 use Rattle.lists.proofs.Numbers.{mul-add-le}
 use Rattle.layout.proofs.Tiers.{rows-apart, mains-after, mains-end, tier-start, tier-before, tier-end}
 
@@ -67,7 +65,7 @@ counter-back count = refl
 
 -- ---- each field is some bytes wide, and stands within its area
 
-global-within : (f : Global) → 8 + fieldAt globalWidths (globalNo f) + getD globalWidths (globalNo f) 0 ≤ 33
+global-within : (f : Global) → 8 + fieldAt globalWidths (globalNo f) + getD globalWidths (globalNo f) 0 ≤ globalSize
 global-within bulkCount = lit≤ tt
 global-within firstFree = lit≤ tt
 global-within usedTiers = lit≤ tt

@@ -4,49 +4,37 @@ use mathlib.Core.List.{List}
 use mathlib.Core.Path.{_≡_, refl, sym, _∙_}
 use native.Mathlib.Omega.{arith}
 use lib.ListN.{length}
+use Rattle.lists.proofs.Decides.{choose-by, choose-no, choose-yes}
 use Rattle.words.specs.Numbers.{le}
 use Rattle.settings.specs.declared.Settings.{Settings}
 use Rattle.settings.specs.Rules.{Valid}
 use Rattle.layout.specs.declared.Shape.{Shape}
 use Rattle.layout.specs.declared.Frame.the-variants.{Fits, Broken}
 use Rattle.layout.specs.Places.{bulkCount, headersOffset, storeSize, global, wide, get}
-use Rattle.layout.specs.Frame.{shapeOf, FrameFits, frameFits?, fromFrame, frameOf, Framed}
+use Rattle.layout.specs.Frame.{shapeOf, FrameFits, frameFits?, frameOf, Framed}
 use Rattle.layout.proofs.Places.{global-at, get-at}
 
 -- ---- a frame is accepted exactly where it fits
 
-frame-met : (z : Shape) (img : List ℕ) (d : Dec (FrameFits z img)) → FrameFits z img → fromFrame z img d ≡ Fits z
-unfolding fromFrame
-frame-met z img (no n) f = absurd (n f)
-frame-met z img (yes _) f = refl
-
-frame-missed : (z : Shape) (img : List ℕ) (d : Dec (FrameFits z img)) → (FrameFits z img → ⊥) → fromFrame z img d ≡ Broken
-unfolding fromFrame
-frame-missed z img (no _) h = refl
-frame-missed z img (yes f) h = absurd (h f)
-
 module _ (st : Settings) (img : List ℕ) where
   pub frame-fits : FrameFits (shapeOf st img) img → frameOf st img ≡ Fits (shapeOf st img)
   unfolding frameOf
-  frame-fits f = frame-met (shapeOf st img) img (frameFits? (shapeOf st img) img) f
+  frame-fits f = choose-yes (frameFits? (shapeOf st img) img) _ _ f
 
   pub frame-broken : (FrameFits (shapeOf st img) img → ⊥) → frameOf st img ≡ Broken
   unfolding frameOf
-  frame-broken h = frame-missed (shapeOf st img) img (frameFits? (shapeOf st img) img) h
+  frame-broken h = choose-no (frameFits? (shapeOf st img) img) _ _ h
 
   -- and nothing else is accepted
   pub record Fitting (z : Shape) : Type 0 where
     pub is : z ≡ shapeOf st img
     pub fits : FrameFits z img
 
-  from-frame : (z : Shape) (d : Dec (FrameFits (shapeOf st img) img)) → fromFrame (shapeOf st img) img d ≡ Fits z → Fitting z
-  unfolding fromFrame
-  from-frame z (no _) e = absurd (let o : _≡_ {A = ℕ} 0 1 = cc in omega arith)
-  from-frame z (yes f) e = let same : shapeOf st img ≡ z = cc in record { is = sym same; fits = rw (← same) f }
-
   pub frame-only : (z : Shape) → frameOf st img ≡ Fits z → Fitting z
   unfolding frameOf
-  frame-only z e = from-frame z (frameFits? (shapeOf st img) img) e
+  frame-only z =
+      choose-by (frameFits? (shapeOf st img) img) _ _ (λ x. x ≡ Fits z → Fitting z) (λ _ e. absurd (let o : _≡_ {A = ℕ} 0 1 = cc in omega arith))
+      λ f e. let same : shapeOf st img ≡ z = cc in record { is = sym same; fits = rw (← same) f }
 
   pub framed : Valid st → FrameFits (shapeOf st img) img → Framed (shapeOf st img) (length img)
   unfolding shapeOf

@@ -4,7 +4,7 @@ use mathlib.Core.List.{List}
 use mathlib.Core.Path.{_≡_}
 use native.Mathlib.Decide.{decLe, ℕ-discrete}
 use lib.ListN.{length}
-use Rattle.lists.specs.Decide.{rule}
+use Rattle.lists.specs.Decide.{rule, choose}
 use Rattle.words.specs.Bytes.{Bytes}
 use Rattle.words.specs.Numbers.{le}
 use Rattle.settings.specs.declared.Settings.{Settings}
@@ -20,18 +20,25 @@ use Rattle.layout.specs.Places.{get, global, storeSize}
 unfoldable pub shapeOf : Settings → List ℕ → Shape
 shapeOf st img = record { settings = st; headers = le img (st .globalAt + 21) 4; bulks = le img (st .globalAt + 8) 3 }
 
+-- the bytes of the global state, and the most tiers of an image
+abbrev pub globalSize : ℕ
+globalSize = 33
+
+abbrev pub mostTiers : ℕ
+mostTiers = 1024
+
 pub record FrameFits (z : Shape) (img : List ℕ) : Type 0 where
-  pub imageLength : Between (z .settings .globalAt + 33) largest (length img)
-  pub headersAfter : z .settings .globalAt + 33 ≤ z .headers
-  pub tierCount : tiers z ≤ 1024
+  pub imageLength : Between (z .settings .globalAt + globalSize) largest (length img)
+  pub headersAfter : z .settings .globalAt + globalSize ≤ z .headers
+  pub tierCount : tiers z ≤ mostTiers
   pub storeSizeIs : get z img (global storeSize) ≡ storeEnd z
   pub storeWithin : storeEnd z ≤ length img
 
 unfoldable pub frameFits? : (z : Shape) (img : List ℕ) → Dec (FrameFits z img)
 frameFits? z img =
-    rule (λ f. f .imageLength) (between? (z .settings .globalAt + 33) largest (length img)) λ a.
-    rule (λ f. f .headersAfter) (decLe (z .settings .globalAt + 33) (z .headers)) λ b.
-    rule (λ f. f .tierCount) (decLe (tiers z) 1024) λ c.
+    rule (λ f. f .imageLength) (between? (z .settings .globalAt + globalSize) largest (length img)) λ a.
+    rule (λ f. f .headersAfter) (decLe (z .settings .globalAt + globalSize) (z .headers)) λ b.
+    rule (λ f. f .tierCount) (decLe (tiers z) mostTiers) λ c.
     rule (λ f. f .storeSizeIs) (ℕ-discrete (get z img (global storeSize)) (storeEnd z)) λ d.
     rule (λ f. f .storeWithin) (decLe (storeEnd z) (length img)) λ e.
     yes (record { imageLength = a; headersAfter = b; tierCount = c; storeSizeIs = d; storeWithin = e })
@@ -44,20 +51,16 @@ pub record Bounded (z : Shape) : Type 0 where
 
 -- ---- the answer
 
-unfoldable pub fromFrame : (z : Shape) (img : List ℕ) → Dec (FrameFits z img) → Frame
-fromFrame z img (no _) = Broken
-fromFrame z img (yes _) = Fits z
-
 unfoldable pub frameOf : Settings → List ℕ → Frame
-frameOf st img = fromFrame (shapeOf st img) img (frameFits? (shapeOf st img) img)
+frameOf st img = choose (frameFits? (shapeOf st img) img) (λ _. Broken) (λ _. Fits (shapeOf st img))
 
 -- ---- an image whose frame fits
 
 -- what a fitting frame says of settings and length alone: every place lies within an image of this length
 pub record Framed (z : Shape) (len : ℕ) : Type 0 where
   pub valid : Valid (z .settings)
-  pub headersAfter : z .settings .globalAt + 33 ≤ z .headers
-  pub tierCount : tiers z ≤ 1024
+  pub headersAfter : z .settings .globalAt + globalSize ≤ z .headers
+  pub tierCount : tiers z ≤ mostTiers
   pub within : storeEnd z ≤ len
   pub small : len ≤ largest
 

@@ -11,7 +11,7 @@ ghost use Rattle.lists.specs.Decide.{Decides};
 ghost use Rattle.settings.specs.Rules.{Valid, Between, largest};
 ghost use Rattle.layout.specs.Tiers.{tiers, mains as Tiers·mains, bulksAt, storeEnd, extraAt, tierAt, IsTier};
 ghost use Rattle.layout.specs.Places.{countersAt, sharedAt, countersOf, freeListAt, chunkAt};
-ghost use Rattle.layout.specs.Frame.{shapeOf, Bounded, FrameFits, frameOf, Framed, HasChunks, HasShared};
+ghost use Rattle.layout.specs.Frame.{shapeOf, Bounded, FrameFits, frameOf, Framed, HasChunks, HasShared, globalSize};
 
 // The settings, with the two numbers of the global state that say where things stand: the headers offset and the bulk count.
 pub struct Shape {
@@ -25,6 +25,12 @@ pub enum Frame {
     Fits(Shape),
     Broken,
 }
+
+// The most tiers of an image.
+pub const MOST_TIERS: usize = 1024;
+
+// The bytes of the global state.
+const GLOBAL_SIZE: usize = 33;
 
 // Offsets in the global state.
 const BULK_COUNT: usize = 8;
@@ -111,7 +117,7 @@ pub fn store_end(z: Shape) -> usize
 }
 
 fn shape_of(st: Settings, img: &[u8]) -> Shape
-    requires { ⌜ Valid st × (st .globalAt + 33 ≤ length (now img)) ⌝ }
+    requires { ⌜ Valid st × (st .globalAt + globalSize ≤ length (now img)) ⌝ }
     ensures { λ r. ⌜ (r ≡ shapeOf st (now (img .entry))) × Bounded r ⌝ }
 {
     let at = st.globalAt;
@@ -123,13 +129,13 @@ fn shape_of(st: Settings, img: &[u8]) -> Shape
 }
 
 fn frame_fits(z: Shape, img: &[u8]) -> bool
-    requires { ⌜ Bounded z × Between (z .settings .globalAt + 33) largest (length (now img)) ⌝ }
+    requires { ⌜ Bounded z × Between (z .settings .globalAt + globalSize) largest (length (now img)) ⌝ }
     ensures { λ r. ⌜ Decides r (FrameFits z (now (img .entry))) ⌝ }
 {
-    if z.headers < z.settings.globalAt + 33 {
+    if z.headers < z.settings.globalAt + GLOBAL_SIZE {
         return false;
     }
-    if 1024 < tier_count(z) {
+    if MOST_TIERS < tier_count(z) {
         return false;
     }
     let end = store_end(z);
@@ -147,10 +153,10 @@ pub fn frame_of(st: Settings, img: &[u8]) -> Frame
     requires { ⌜ Valid st ⌝ }
     ensures { λ r. ⌜ r ≡ frameOf st (now (img .entry)) ⌝ }
 {
-    if img.len() < st.globalAt + 33 {
+    if img.len() < st.globalAt + GLOBAL_SIZE {
         return Frame::Broken;
     }
-    if 16777216 < img.len() {
+    if settings::LARGEST < img.len() {
         return Frame::Broken;
     }
     let z = shape_of(st, img);

@@ -2,23 +2,27 @@
 use Prim.Native.Nat.{ℕ, _+_, _-_, _≤_, _<_}
 use mathlib.Core.Bool.{Bool, true, false}
 use mathlib.Core.List.{List}
-use mathlib.Core.Path.{_≡_, refl, sym, _∙_}
-use mathlib.Core.Logic.{⊎-elim}
+use mathlib.Core.Path.{_≡_, refl, ap, sym, _∙_, subst}
+use mathlib.Core.Logic.{⊎-elim, _≢_}
 use native.Mathlib.Omega.{arith}
+use native.Mathlib.Decide.{decLt}
 use lib.Dec.{ltb}
 use lib.ListN.{length, take}
 use lib.Seq.{length-take-le}
 use borrow.Author.Tests.{ltb-false, lt-ltb, le-ltb}
 use Rattle.lists.specs.Cases.{by-test, lt-or}
+use Rattle.lists.proofs.Decides.{choose-by, choose-no, choose-yes}
 use Rattle.words.specs.Numbers.{be}
 use Rattle.settings.specs.declared.Parsed.{Parsed}
 use Rattle.settings.specs.declared.Parsed.the-variants.{Accepted, BadBlock, BadField}
-use Rattle.settings.specs.Block.{parse}
+use Rattle.settings.specs.Versions.{mostFields, fieldsOf, headSize, blockSize}
+use Rattle.settings.specs.Block.{version, parse}
+use Rattle.settings.proofs.Versions.{fields-most}
 use Rattle.image.specs.declared.Stage.{Stage}
-use Rattle.image.specs.declared.Stage.the-variants.{Frame}
+use Rattle.image.specs.declared.Stage.the-variants.{Block, Frame}
 use Rattle.lister.specs.declared.input.Input.{Input}
 use Rattle.lister.specs.declared.input.Input.the-variants.{More, Whole, Refused}
-use Rattle.lister.specs.Input.{blockEnd, imageAt, limit, longest, missing, needed, readingImage, readingLength, fromParsed, reading, Decided, HasRead}
+use Rattle.lister.specs.Input.{imageAt, limit, longest, Ends, missing, needed, readingImage, readingLength, fromParsed, readingBlock, readingFields, reading, Decided, HasRead}
 
 -- ---- by cases
 
@@ -31,29 +35,53 @@ module _ (s : Stage) (n : ℕ) (read : List ℕ) (ended : Bool) (next : Input) w
   unfolding needed
   needed-there h = rw (le-ltb (length read) n h, needed)
 
-module _ (n : ℕ) (read : List ℕ) (ended : Bool) where
-  pub image-long : limit < n → readingImage n read ended ≡ Refused Frame
+module _ (end n : ℕ) (read : List ℕ) (ended : Bool) where
+  pub image-long : limit < n → readingImage end n read ended ≡ Refused Frame
   unfolding readingImage
   image-long h = rw (lt-ltb limit n h, readingImage)
 
-  pub image-short : n ≤ limit → readingImage n read ended ≡ needed Frame (imageAt + n) read ended (Whole n)
+  pub image-short : n ≤ limit → readingImage end n read ended ≡ needed Frame (imageAt end + n) read ended (Whole end n)
   unfolding readingImage
   image-short h = rw (le-ltb limit n h, readingImage)
 
-module _ (read : List ℕ) (ended : Bool) where
-  pub length-next : {n : ℕ} → imageAt ≤ length read → n ≡ be read blockEnd 4 → readingLength read ended ≡ readingImage n read ended
+module _ {end at : ℕ} (ends : Ends end at) (read : List ℕ) (ended : Bool) where
+  pub length-short : length read < at → readingLength end read ended ≡ missing Frame at ended
   unfolding readingLength
-  length-next {n} h e = rw e (needed-there _ imageAt read ended _ h)
+  length-short =
+      subst (λ (x : ℕ). length read < x → readingLength end read ended ≡ missing Frame x ended) (sym (ends .starts))
+      (needed-short Frame (imageAt end) read ended _)
 
-  pub reading-next : {p : Parsed} → blockEnd ≤ length read → p ≡ parse (take blockEnd read) → reading read ended ≡ fromParsed p (readingLength read ended)
+  pub length-next : {n : ℕ} → at ≤ length read → n ≡ be read end 4 → readingLength end read ended ≡ readingImage end n read ended
+  unfolding readingLength
+  length-next {n} h e = rw e (needed-there _ (imageAt end) read ended _ (omega (arith, ends .starts)))
+
+  pub image-next : {n : ℕ} → n ≤ limit → readingImage end n read ended ≡ needed Frame (at + n) read ended (Whole end n)
+  image-next {n} h =
+      subst (λ (x : ℕ). readingImage end n read ended ≡ needed Frame (x + n) read ended (Whole end n)) (sym (ends .starts)) (image-short end n read ended h)
+
+module _ (end : ℕ) (read : List ℕ) (ended : Bool) where
+  pub block-next : {p : Parsed} → end ≤ length read → p ≡ parse (take end read) → readingBlock end read ended ≡ fromParsed p (readingLength end read ended)
+  unfolding readingBlock
+  block-next h e = rw e (needed-there _ end read ended _ h)
+
+module _ (read : List ℕ) (ended : Bool) {fields : ℕ} (there : headSize ≤ length read) (e : fields ≡ fieldsOf (version read)) where
+  next : reading read ended ≡ readingFields fields read ended
   unfolding reading
-  reading-next h e = rw e (needed-there _ blockEnd read ended _ h)
+  next = rw e (needed-there _ headSize read ended _ there)
+
+  pub version-unknown : fields ≡ 0 → Refused Block ≡ reading read ended
+  unfolding readingFields
+  version-unknown z = sym (next ∙ choose-no (decLt 0 fields) _ _ (λ (h : 0 < fields). omega arith))
+
+  pub version-known : {end : ℕ} → end ≡ blockSize fields → fields ≢ 0 → readingBlock end read ended ≡ reading read ended
+  unfolding readingFields
+  version-known q n = ap (λ (x : ℕ). readingBlock x read ended) q ∙ sym (next ∙ choose-yes (decLt 0 fields) _ _ (omega arith))
 
 -- ---- it asks for more than it has, within the longest input, and never after the end; a whole image is within what was read
 
 abbrev pub Bounds : List ℕ → Bool → Input → Type 0
 Bounds read ended (More n) = (ended ≡ false) × (length read < n) × (n ≤ longest)
-Bounds read ended (Whole n) = imageAt + n ≤ length read
+Bounds read ended (Whole end n) = imageAt end + n ≤ length read
 Bounds read ended (Refused s) = Unit
 
 missing-bounds : (read : List ℕ) (ended : Bool) (s : Stage) (n : ℕ) → length read < n → n ≤ longest → Bounds read ended (missing s n ended)
@@ -68,11 +96,11 @@ module _ (read : List ℕ) (ended : Bool) where
       (λ (l : n ≤ length read). rw (needed-there s n read ended next l) (f l))
       (lt-or (length read) n)
 
-  image-bounds : (n : ℕ) → Bounds read ended (readingImage n read ended)
-  image-bounds n =
+  image-bounds : (end n : ℕ) → end ≤ blockSize mostFields → Bounds read ended (readingImage end n read ended)
+  image-bounds end n h =
       ⊎-elim
-      (λ (l : limit < n). rw (image-long n read ended l) tt)
-      (λ (l : n ≤ limit). rw (image-short n read ended l) (needed-bounds Frame (imageAt + n) (Whole n) (omega arith) (λ w. w)))
+      (λ (l : limit < n). rw (image-long end n read ended l) tt)
+      (λ (l : n ≤ limit). rw (image-short end n read ended l) (needed-bounds Frame (imageAt end + n) (Whole end n) (omega arith) (λ w. w)))
       (lt-or limit n)
 
   parsed-bounds : (p : Parsed) (next : Input) → Bounds read ended next → Bounds read ended (fromParsed p next)
@@ -81,12 +109,19 @@ module _ (read : List ℕ) (ended : Bool) where
   parsed-bounds BadField next h = tt
   parsed-bounds (Accepted st) next h = h
 
+  block-bounds : (end : ℕ) → end ≤ blockSize mostFields → Bounds read ended (readingBlock end read ended)
+  unfolding readingBlock readingLength
+  block-bounds end h =
+      needed-bounds _ end _ (omega arith) λ _.
+      parsed-bounds (parse (take end read)) _
+      (needed-bounds _ (imageAt end) _ (omega arith) λ _. image-bounds end (be read end 4) h)
+
   pub reading-bounds : Bounds read ended (reading read ended)
-  unfolding reading readingLength
+  unfolding reading readingFields
   reading-bounds =
-      needed-bounds _ blockEnd _ (omega arith) λ _.
-      parsed-bounds (parse (take blockEnd read)) _
-      (needed-bounds _ imageAt _ (omega arith) λ _. image-bounds (be read blockEnd 4))
+      needed-bounds _ headSize _ (omega arith) λ _.
+      choose-by (decLt 0 (fieldsOf (version read))) _ _ (Bounds read ended) (λ _. tt) λ _.
+      block-bounds (blockSize (fieldsOf (version read))) (omega (arith, fields-most (version read)))
 
 -- ---- so a buffer of the longest input is enough, and reading on ends
 
@@ -99,9 +134,9 @@ module _ (buf : List ℕ) (got : ℕ) (ended : Bool) {r : Input} (fits : (length
   pub has-read : {x : Input} → r ≡ x → Decided x → HasRead buf x
   has-read e d = record { got = got; ended = ended; within = omega arith; said = sym e ∙ due; decided = d }
 
-pub whole-there : {buf : List ℕ} {r : Input} {n : ℕ} → HasRead buf r → r ≡ Whole n → imageAt + n ≤ length buf
-whole-there {buf} {r} {n} a e =
-    let bounds : Bounds (take (a .got) buf) (a .ended) (Whole n) = rw (sym (a .said) ∙ e) at (reading-bounds (take (a .got) buf) (a .ended)) in
+pub whole-there : {buf : List ℕ} {r : Input} {end n : ℕ} → HasRead buf r → r ≡ Whole end n → imageAt end + n ≤ length buf
+whole-there {buf} {r} {end} {n} a e =
+    let bounds : Bounds (take (a .got) buf) (a .ended) (Whole end n) = rw (sym (a .said) ∙ e) at (reading-bounds (take (a .got) buf) (a .ended)) in
     omega (arith, length-take-le (a .got) buf (a .within))
 
 -- how often it can be read on, and one more before the end

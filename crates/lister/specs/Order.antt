@@ -18,7 +18,10 @@ badField version = blockWith version (set fieldsX 3 3)
 -- what was read, whether the input ended there, and what is due
 unfoldable pub cases : List (List ℕ × Bool × Input)
 cases =
-    ([], false, More 71)
+    ([], false, More 3)
+    -- a version that is not known
+    ∷ (take 3 (badField 2), false, Refused Block)
+    ∷ (take 3 good, false, More 71)
     ∷ (take 70 good, false, More 71)
     -- an early end in the block
     ∷ (take 70 good, true, Refused Block)
@@ -33,5 +36,5 @@ cases =
     ∷ (good ++ (0 ∷ 1 ∷ 0 ∷ 1 ∷ []), false, Refused Frame)
     -- the image: an early end, and all of it
     ∷ (good ++ (0 ∷ 0 ∷ 0 ∷ 2 ∷ 7 ∷ []), true, Refused Frame)
-    ∷ (good ++ (0 ∷ 0 ∷ 0 ∷ 2 ∷ 7 ∷ 7 ∷ []), false, Whole 2)
+    ∷ (good ++ (0 ∷ 0 ∷ 0 ∷ 2 ∷ 7 ∷ 7 ∷ []), false, Whole 71 2)
     ∷ []

@@ -5,9 +5,8 @@ mod print;
 mod rows;
 
 use image::Examined;
-use input::BLOCK_END;
-use input::IMAGE_AT;
 use input::Input;
+use input::LENGTH_SIZE;
 use input::LONGEST;
 ghost use Prim.Native.Nat.{_≤_};
 ghost use lib.ListN.{length};
@@ -16,19 +15,20 @@ ghost use Rattle.lister.specs.Input.{imageAt};
 fn main() {
     let mut buf = [0u8; LONGEST];
     match input::read(&mut buf) {
-        Input::Whole(n) => list(&buf[..IMAGE_AT + n]),
+        Input::Whole(end, n) => list(&buf[..end + LENGTH_SIZE + n], end),
         Input::Refused(stage) => print::refusal(stage),
         // not an answer of read, which reads on
         Input::More(_) => {}
     }
 }
 
-// Lists the image of a whole input.
-fn list(input: &[u8])
-    requires { ⌜ imageAt ≤ length (now input) ⌝ }
+// Lists the image of a whole input, whose block ends there.
+fn list(input: &[u8], end: usize)
+    requires { ⌜ imageAt end ≤ length (now input) ⌝ }
 {
-    let img = &input[IMAGE_AT..];
-    match image::examine(&input[..BLOCK_END], img) {
+    let at = end + LENGTH_SIZE;
+    let img = &input[at..];
+    match image::examine(&input[..end], img) {
         Examined::Refused(stage) => print::refusal(stage),
         Examined::Ready(z, counts) => {
             print::heading();

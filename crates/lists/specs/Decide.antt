@@ -31,6 +31,11 @@ unfoldable pub refuted : {A : Type 0} → Dec A → Dec (A → ⊥)
 refuted (no n) = yes n
 refuted (yes a) = no (λ f. f a)
 
+-- one answer where it does not hold, another where it does; only the one that is taken is computed
+unfoldable pub choose : {A B : Type 0} → Dec A → (Unit {0} → B) → (Unit {0} → B) → B
+choose (no _) f g = f tt
+choose (yes _) f g = g tt
+
 -- some number below n
 unfoldable pub someBelow : (P : ℕ → Type 0) → ((k : ℕ) → Dec (P k)) → (n : ℕ) → Dec ((k : ℕ) × ((k < n) × P k))
 someBelow P d zero = no (λ q. let h : q .0 < 0 = q .1 .0 in omega arith)

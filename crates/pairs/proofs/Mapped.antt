@@ -5,7 +5,6 @@ use mathlib.Core.Path.{_≡_, refl, ap, sym, _∙_, subst}
 use mathlib.Core.Logic.{_≢_, ⊎-elim}
 use mathlib.Core.Option.{Option, none, some}
 use native.Mathlib.Omega.{arith}
-use lib.ListN.{length}
 use lib.IntN.{ℤ, ℤ-discrete}
 use Rattle.lists.specs.Cases.{same-or}
 use Rattle.words.specs.Bytes.{Bytes}
@@ -24,7 +23,7 @@ use Rattle.pairs.specs.declared.SetAnswer.{SetAnswer}
 use Rattle.pairs.specs.declared.SetAnswer.the-variants as set
 use Rattle.pairs.specs.Pairs.{ChannelsFit, channelsFit?, pairKey, delayRecord, mostNegative, recordFits?, inOrder}
 use Rattle.pairs.specs.Delays.{fromRecord, fromLocated, delay, Setting, unlessRefused, setDelay, setNumber}
-use Rattle.pairs.proofs.Orders.{key-length, key-bytes}
+use Rattle.pairs.proofs.Orders.{key-bytes, key-fits}
 use Rattle.pairs.proofs.Records.{record-bytes}
 use Rattle.pairs.proofs.Answering.{ask-misfit, ask-fits, set-misfit, set-most, set-fits}
 
@@ -43,11 +42,8 @@ module _ (block img : List ℕ) (bytes : Bytes img) (accepted : Accepted block i
   unfolding fromMap fromLocated
   ask-map a b f = ask-fits block img a b f ∙ by-get (mapGet (mapOf block img) (pairKey a b)) refl
     where
-      long : length (pairKey a b) ≡ 2
-      long = key-length a b
-
       by-get : (o : Option Pair) → mapGet (mapOf block img) (pairKey a b) ≡ o → fromLocated block img a b (lookup block img (pairKey a b)) ≡ fromMap a b o
-      by-get none g = ap (fromLocated block img a b) (lookup-none block img bytes accepted (pairKey a b) (omega (arith, long)) (omega (arith, long)) g)
+      by-get none g = ap (fromLocated block img a b) (lookup-none block img bytes accepted (pairKey a b) (key-fits a b _) g)
       by-get (some p) g =
           let l : Looked block img (pairKey a b) p = lookup-some block img bytes accepted (pairKey a b) p g in
           ap (fromLocated block img a b) (l .found) ∙ ap (λ (r : List ℕ). fromRecord a b r (recordFits? r)) (l .bytes)

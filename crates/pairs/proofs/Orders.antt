@@ -9,6 +9,8 @@ use lib.IntN.{ℤ, negℤ, negℤ-negℤ}
 use borrow.Author.Tests.{lt-ltb, le-ltb}
 use Rattle.lists.specs.Cases.{lt-or}
 use Rattle.words.specs.Bytes.{Bytes}
+use Rattle.settings.specs.declared.Settings.{Settings}
+use Rattle.entries.specs.Keys.{KeyFits}
 use Rattle.pairs.specs.Pairs.{ChannelsFit, pairKey, inOrder}
 
 module _ (a b : ℕ) where
@@ -58,8 +60,11 @@ two-bytes a b ha hb zero = omega arith
 two-bytes a b ha hb (suc zero) = omega arith
 two-bytes a b ha hb (suc (suc i)) = omega arith
 
-pub key-length : (a b : ℕ) → length (pairKey a b) ≡ 2
+key-length : (a b : ℕ) → length (pairKey a b) ≡ 2
 key-length a b = ⊎-elim (λ (h : a < b). ap length (sym (key-first a b h))) (λ (h : b ≤ a). ap length (sym (key-last a b h))) (lt-or a b)
+
+pub key-fits : (a b : ℕ) (st : Settings) → KeyFits st (pairKey a b)
+key-fits a b st = record { someByte = omega (arith, key-length a b); notLonger = omega (arith, key-length a b) }
 
 pub key-bytes : (a b : ℕ) → ChannelsFit a b → Bytes (pairKey a b)
 key-bytes a b fit =

@@ -6,13 +6,12 @@ use mathlib.Core.Logic.{_≢_, ⊎-elim}
 use mathlib.Core.Bool.{not}
 use native.Mathlib.Omega.{arith}
 use lib.Dec.{eqb}
-use lib.ListN.{length}
 use lib.IntN.{ℤ, pos, ℤ-discrete}
 use borrow.Author.Tests.{ne-eqb}
+use Rattle.lists.specs.Decide.{choose}
 use Rattle.lists.specs.Lists.{span, those}
 use Rattle.lists.proofs.Lists.{in-span, span-in}
 use Rattle.lists.proofs.Members.{in-those}
-use Rattle.settings.specs.Rules.{Between}
 use Rattle.image.specs.declared.Outcome.{Outcome}
 use Rattle.image.specs.declared.Outcome.the-variants as outcome
 use Rattle.image.specs.Check.{stageNumber, check, outcomeNumbers}
@@ -25,7 +24,7 @@ use Rattle.pairs.specs.declared.Asked.the-variants as asked
 use Rattle.pairs.specs.Pairs.{ChannelsFit, channelsFit?, pairKey, delayRecord, mostNegative, RecordFits, recordFits?, inOrder}
 use Rattle.pairs.specs.Delays.{fromRecord, fromLocated, askPair, askChecked, delay, askedReply, setRecord, setPair, setChecked, setDelay, setNumber}
 use Rattle.pairs.specs.History.{Refusals}
-use Rattle.pairs.proofs.Orders.{key-length}
+use Rattle.pairs.proofs.Orders.{key-fits}
 
 -- ---- which numbers are answered
 
@@ -71,11 +70,8 @@ module _ (block img : List ℕ) where
   checked = demand1 block img .checkAnswers .allowed
 
   module _ (a b : ℕ) where
-    fits : Between 1 1024 (length (pairKey a b))
-    fits = omega (arith, key-length a b)
-
     record-asked : (r : List ℕ) (d : Dec (RecordFits r)) → IsAskNumber (askedReply (fromRecord a b r d) .number)
-    unfolding fromRecord
+    unfolding choose fromRecord
     record-asked r (no _) = ask-pair 12 (List·Memᴰ·tail (List·Memᴰ·head refl)) (omega arith)
     record-asked r (yes _) = ask-store 0 (omega arith) (omega arith)
 
@@ -87,11 +83,11 @@ module _ (block img : List ℕ) where
     looked-asked (looked.Found at n) h ne = record-asked (recordBytes img (looked.Found at n)) (recordFits? (recordBytes img (looked.Found at n)))
 
     pair-asked : (f : Dec (ChannelsFit a b)) → IsAskNumber (askedReply (askPair block img a b f) .number)
-    unfolding askPair span
+    unfolding choose askPair span
     pair-asked (no _) = ask-pair 11 (List·Memᴰ·head refl) (omega arith)
     pair-asked (yes _) =
         let m = span-in 0 9 (numberOf (lookupNumbers (lookup block img (pairKey a b)))) (demand1 block img .lookupAnswers (pairKey a b) .allowed) in
-        looked-asked (lookup block img (pairKey a b)) (m .1) (lookup-not-8 block img (pairKey a b) fits)
+        looked-asked (lookup block img (pairKey a b)) (m .1) (lookup-not-8 block img (pairKey a b) (key-fits a b))
 
     check-asked : (o : Outcome) → List·Memᴰ (numberOf (outcomeNumbers o)) (0 ∷ span 2 6)
         → IsAskNumber (askedReply (askChecked block img a b o) .number)
@@ -101,14 +97,14 @@ module _ (block img : List ℕ) where
 
     module _ (d : ℤ) where
       record-set : (m : Dec (d ≡ mostNegative)) → IsSetNumber (setNumber (setRecord block img a b d m .answer))
-      unfolding setRecord span
+      unfolding choose setRecord span
       record-set (yes _) = set-pair 12 (List·Memᴰ·tail (List·Memᴰ·head refl)) (omega arith)
       record-set (no _) =
           set-store _ (demand1 block img .storeAnswers (pairKey a b) (delayRecord (inOrder a b d)) .allowed)
-          (store-not-8 block img (pairKey a b) fits (delayRecord (inOrder a b d)))
+          (store-not-8 block img (pairKey a b) (key-fits a b) (delayRecord (inOrder a b d)))
 
       pair-set : (f : Dec (ChannelsFit a b)) → IsSetNumber (setNumber (setPair block img a b d f .answer))
-      unfolding setPair
+      unfolding choose setPair
       pair-set (no _) = set-pair 11 (List·Memᴰ·head refl) (omega arith)
       pair-set (yes _) = record-set (ℤ-discrete d mostNegative)
 
@@ -131,12 +127,12 @@ ask-refused (asked.Refused s) ne = refl
 
 module _ (block img : List ℕ) (a b : ℕ) (d : ℤ) where
   record-refused : (m : Dec (d ≡ mostNegative)) → setNumber (setRecord block img a b d m .answer) ≢ 0 → setRecord block img a b d m .image ≡ img
-  unfolding setRecord
+  unfolding choose setRecord
   record-refused (yes _) ne = refl
   record-refused (no _) ne = demand1 block img .storeRefused (pairKey a b) (delayRecord (inOrder a b d)) ne
 
   pair-refused : (f : Dec (ChannelsFit a b)) → setNumber (setPair block img a b d f .answer) ≢ 0 → setPair block img a b d f .image ≡ img
-  unfolding setPair
+  unfolding choose setPair
   pair-refused (no _) ne = refl
   pair-refused (yes _) ne = record-refused (ℤ-discrete d mostNegative) ne
 

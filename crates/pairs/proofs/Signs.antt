@@ -10,6 +10,7 @@ use lib.ListN.{length}
 use lib.IntN.{ℤ, pos, negℤ, _+ℤ_, +ℤ-invr}
 use mir.Syntax.{w32}
 use mir.Val.{SFits}
+use Rattle.lists.specs.Decide.{choose}
 use Rattle.words.specs.Bytes.{Bytes}
 use Rattle.entries.specs.Pairs.{Pair}
 use Rattle.chronicle_map.specs.History.{mapOf, mapGet}
@@ -83,7 +84,7 @@ swapped f = (f .1 .0, (f .0, λ e. f .1 .1 (sym e)))
 
 module _ (a b : ℕ) (n : a ≢ b) where
   record-zero : (r : List ℕ) (d : Dec (RecordFits r)) → askedReply (fromRecord a b r d) .delay +ℤ askedReply (fromRecord b a r d) .delay ≡ pos 0
-  unfolding fromRecord
+  unfolding choose fromRecord
   record-zero r (no _) = refl
   record-zero r (yes _) = ap (λ (y : ℤ). inOrder a b (recordDelay r) +ℤ y) (sign-either a b (recordDelay r) n) ∙ +ℤ-invr (inOrder a b (recordDelay r))
 
@@ -96,7 +97,7 @@ module _ (a b : ℕ) (n : a ≢ b) where
 set-asked : (a b : ℕ) {d : ℤ} → SFits w32 d → d ≢ mostNegative
     → askedReply (fromRecord a b (delayRecord d) (recordFits? (delayRecord d))) ≡ record { number = 0; delay = inOrder a b d }
 set-asked a b {d} f n =
-    ap askedReply (sym (record-yes a b (delayRecord d) (recordFits? (delayRecord d)) (record-fits d f n)))
+    ap askedReply (sym (record-yes a b (delayRecord d) (record-fits d f n)))
     ∙ ap (λ (x : ℤ). record { number = 0; delay = inOrder a b x }) (record-back d f)
 
 -- ---- an ask on an image that is kept

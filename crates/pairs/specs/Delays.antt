@@ -4,6 +4,7 @@ use Prim.Native.Nat.{ℕ}
 use mathlib.Core.List.{List}
 use mathlib.Core.Path.{_≡_}
 use lib.IntN.{ℤ, pos, ℤ-discrete}
+use Rattle.lists.specs.Decide.{choose}
 use Rattle.image.specs.declared.Outcome.{Outcome}
 use Rattle.image.specs.declared.Outcome.the-variants as outcome
 use Rattle.image.specs.Check.{stageNumber, check}
@@ -21,8 +22,7 @@ use Rattle.pairs.specs.Pairs.{ChannelsFit, channelsFit?, pairKey, delayR
 
 -- 12, of the stored record
 unfoldable pub fromRecord : (a b : ℕ) (r : List ℕ) → Dec (RecordFits r) → Asked
-fromRecord a b r (no _) = asked.BadDelay
-fromRecord a b r (yes _) = asked.Found (inOrder a b (recordDelay r))
+fromRecord a b r d = choose d (λ _. asked.BadDelay) (λ _. asked.Found (inOrder a b (recordDelay r)))
 
 module _ (block img : List ℕ) (a b : ℕ) where
   unfoldable pub fromLocated : Located → Asked
@@ -32,8 +32,7 @@ module _ (block img : List ℕ) (a b : ℕ) where
 
   -- 11
   unfoldable pub askPair : Dec (ChannelsFit a b) → Asked
-  askPair (no _) = asked.BadPair
-  askPair (yes _) = fromLocated (lookup block img (pairKey a b))
+  askPair f = choose f (λ _. asked.BadPair) (λ _. fromLocated (lookup block img (pairKey a b)))
 
   -- 2 to 7
   unfoldable pub askChecked : Outcome → Asked
@@ -61,24 +60,25 @@ pub record Setting : Type 0 where
   pub answer : SetAnswer
   pub image : List ℕ
 
+-- what the store of a record answers and leaves; a refusal leaves the image
+abbrev pub fromStore : List ℕ → List ℕ → List ℕ → List ℕ → Setting
+fromStore block img key bytes = record { answer = set.Stored (store block img key bytes .answer); image = store block img key bytes .image }
+
+abbrev pub refusing : List ℕ → SetAnswer → Setting
+refusing img x = record { answer = x; image = img }
+
 module _ (block img : List ℕ) (a b : ℕ) (d : ℤ) where
-  -- 12, of the delay that is given; then the store's
+  -- 12, of the delay that is given; else the store's
   unfoldable pub setRecord : Dec (d ≡ mostNegative) → Setting
-  setRecord (yes _) = record { answer = set.BadDelay; image = img }
-  setRecord (no _) =
-      record {
-        answer = set.Stored (store block img (pairKey a b) (delayRecord (inOrder a b d)) .answer);
-        image = store block img (pairKey a b) (delayRecord (inOrder a b d)) .image;
-      }
+  setRecord m = choose m (λ _. fromStore block img (pairKey a b) (delayRecord (inOrder a b d))) (λ _. refusing img set.BadDelay)
 
   -- 11
   unfoldable pub setPair : Dec (ChannelsFit a b) → Setting
-  setPair (no _) = record { answer = set.BadPair; image = img }
-  setPair (yes _) = setRecord (ℤ-discrete d mostNegative)
+  setPair f = choose f (λ _. refusing img set.BadPair) (λ _. setRecord (ℤ-discrete d mostNegative))
 
   -- 2 to 7
   unfoldable pub setChecked : Outcome → Setting
-  setChecked (outcome.Refused s) = record { answer = set.Stored (answer.Refused s); image = img }
+  setChecked (outcome.Refused s) = refusing img (set.Stored (answer.Refused s))
   setChecked (outcome.Accepted c) = setPair (channelsFit? a b)
 
   unfoldable pub setDelay : Setting

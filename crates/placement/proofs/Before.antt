@@ -16,7 +16,7 @@ use Rattle.layout.specs.Frame.{Image}
 use Rattle.layout.proofs.Chunks.{chunk-add, chunk-inside}
 use Rattle.chains.specs.Chains.{chain}
 use Rattle.entries.specs.Keys.{KeyFits, segmentOf, lookupKey, slotKey, slotChunk, slotRest, slotWith}
-use Rattle.entries.specs.Stored.{entryBytes, chunksFor}
+use Rattle.entries.specs.Stored.{entryBytes, chunksFor, ValueFits}
 use Rattle.entries.specs.Live.{fullSlots}
 use Rattle.entries.proofs.Hashes.{lookup-lt, lookup-full}
 use Rattle.sound.specs.Sound.{SoundBut}
@@ -46,9 +46,8 @@ pub record Places (z : Shape) (img but : List ℕ) (s t c : ℕ) (key value : Li
   pub tierIn : List·Memᴰ t (chain z img s)
   pub keyBytes : Bytes key
   pub valueBytes : Bytes value
-  pub keyLong : KeyFits (z .settings) (length key)
-  pub valueLong : length value ≤ 65535
-  pub notTooMany : chunksFor (z .settings) (length key) (length value) ≤ z .settings .mostChunks
+  pub keyFits : KeyFits (z .settings) key
+  pub valueFits : ValueFits (z .settings) (length key) (length value)
   pub segmentIs : segmentOf (z .settings) key ≡ s
   pub roomy : length (fullSlots z img t) + 2 ≤ z .settings .slots
   pub rangeEnds : c + chunksFor (z .settings) (length key) (length value) ≤ z .settings .chunks
@@ -71,8 +70,8 @@ module _ {z : Shape} {img but : List ℕ} {s t c : ℕ} {key value : List ℕ} (
       record {
         write = record {
           tier = record { framed = image .framed; tierIn = is-tier };
-          keyLong = p .keyLong .1;
-          valueLong = p .valueLong;
+          keyLong = p .keyFits .notLonger;
+          valueLong = p .valueFits .notLonger;
           rangeEnds = p .rangeEnds;
         };
         takes = record {
@@ -104,8 +103,8 @@ module _ {z : Shape} {img but : List ℕ} {s t c : ℕ} {key value : List ℕ} (
   entry-bytes =
       let k : List ℕ = encode (length key) in
       let v : List ℕ = encode (length value) in
-      let hk : Bytes k = bytes-encode (length key) (omega (arith, p .keyLong)) in
-      let hv : Bytes v = bytes-encode (length value) (omega (arith, p .valueLong)) in
+      let hk : Bytes k = bytes-encode (length key) (omega (arith, p .keyFits .notLonger)) in
+      let hv : Bytes v = bytes-encode (length value) (omega (arith, p .valueFits .notLonger)) in
       bytes-append (k ++ key ++ v) value (bytes-append (k ++ key) v (bytes-append k key hk (p .keyBytes)) hv) (p .valueBytes)
 
   -- ---- its slot's number

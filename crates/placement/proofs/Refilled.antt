@@ -14,12 +14,12 @@ use Rattle.layout.specs.Places.{mark}
 use Rattle.chains.specs.Chains.{chain}
 use Rattle.entries.specs.declared.Entry.{Entry}
 use Rattle.entries.specs.declared.Stored.the-variants.{Whole}
-use Rattle.entries.specs.Keys.{slotChunk}
+use Rattle.entries.specs.Keys.{slotChunk, KeyFits}
 use Rattle.entries.specs.Stored.{entryBytes, chunksFor, stored, entryOf, keyOf, valueOf}
 use Rattle.entries.specs.Live.{slotAt, chunkOf, entryAt, liveIn}
 use Rattle.entries.proofs.Whole.{entryHere, stored-whole}
 use Rattle.search.specs.Rules.{Hashed, keyAt, EntryFits, TierSlotsFit}
-use Rattle.search.proofs.Fitting.{entry-right}
+use Rattle.search.proofs.Fitting.{entry-right, Held}
 use Rattle.chunks.specs.Chunks.{covers}
 use Rattle.entries.specs.Pairs.{Pair}
 use Rattle.sound.proofs.Values.{entryFor, pairFor}
@@ -55,7 +55,7 @@ module _ {z : Shape} {img but : List ℕ} {s t c : ℕ} {key value : List ℕ} (
 
   whole : (stored z m′ t c ≡ Whole made) × (keyOf m′ made ≡ key) × (valueOf m′ made ≡ value)
   whole =
-      stored-whole z m′ t c key value (omega (arith, p .keyLong)) (p .valueLong)
+      stored-whole z m′ t c key value (omega (arith, p .keyFits .notLonger)) (p .valueFits .notLonger)
       (bytes-new z img t c n (entryBytes settings key value) (writes p) r v (place-in p))
       (entry-in-chunks p)
 
@@ -75,9 +75,10 @@ module _ {z : Shape} {img but : List ℕ} {s t c : ℕ} {key value : List ℕ} (
 
   fits-here : EntryFits z m′ s t r
   fits-here =
-      entry-right z m′ s t r v (slotChunk settings v) (sym slot-here) refl made stored-here (number-rest p)
-      (p .keyLong .0) (p .keyLong .1)
-      n refl (p .notTooMany) (rw (number-chunk p) (p .rangeEnds))
+      let holds : Held z m′ t r v (slotChunk settings v) made = record { holds = sym slot-here; first = refl; whole = stored-here } in
+      entry-right holds (number-rest p)
+      (rw (whole .1) (p .keyFits)) (p .valueFits) refl
+      (omega (arith, number-chunk p, p .rangeEnds))
       (rw (whole .1) (record { segmentAgrees = p .segmentIs; lookupAgrees = sym (number-key p) }))
 
   -- ---- any other full slot is one from before
@@ -100,9 +101,9 @@ module _ {z : Shape} {img but : List ℕ} {s t c : ℕ} {key value : List ℕ} (
         let was : EntryFits z img s t k = was-entry p k hk f in
         let same : keyOf m′ e ≡ keyOf img e =
         ap (keyOf m′) (sym (entry-kept p k hk f)) ∙ ap (λ (x : Pair). x .key) (pair-kept p k hk f) in
-        entry-right z m′ s t k (slotAt z img t k) (chunkOf z img t k) (sym slot-there) refl e
-        (stored-kept p k hk f ∙ was-stored p k hk f) (was .higherBits) (was .keyLength .0) (was .keyLength .1)
-        (chunksFor settings (e .keyLength) (e .valueLength)) refl (was .notTooMany) (was .rangeEnds)
+        let holds : Held z m′ t k (slotAt z img t k) (chunkOf z img t k) e =
+        record { holds = sym slot-there; first = refl; whole = stored-kept p k hk f ∙ was-stored p k hk f } in
+        entry-right holds (was .higherBits) (subst (KeyFits settings) (sym same) (was .keyFits)) (was .valueFits) refl (was .rangeEnds)
         (subst (Hashed settings s (slotAt z img t k)) (sym same) (was .hashed))
 
   -- ---- the rules of slots and entries

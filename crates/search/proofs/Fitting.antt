@@ -14,9 +14,8 @@ use Rattle.chains.specs.Chains.{chain}
 use Rattle.entries.specs.declared.Entry.{Entry}
 use Rattle.entries.specs.declared.Stored.{Stored}
 use Rattle.entries.specs.declared.Stored.the-variants.{Whole, Broken}
-use Rattle.entries.specs.Keys.{slotChunk, slotRest}
-use Rattle.entries.specs.Asking.{Lengths}
-use Rattle.entries.specs.Stored.{stored, entryOf, keyOf, chunksFor}
+use Rattle.entries.specs.Keys.{slotChunk, slotRest, KeyFits}
+use Rattle.entries.specs.Stored.{stored, entryOf, keyOf, chunksFor, ValueFits}
 use Rattle.entries.specs.Live.{slotAt, chunkOf, entryAt}
 use Rattle.entries.proofs.Whole.{WholeAt, whole-sound, whole-chunk, key-in-image}
 use Rattle.search.specs.declared.Found.{Found}
@@ -25,7 +24,7 @@ use Rattle.search.specs.declared.rules.Slot.{Slot}
 use Rattle.search.specs.declared.rules.Slot.the-variants.{Fits}
 use Rattle.search.specs.declared.rules.Slot.the-variants as slot
 use Rattle.search.specs.Search.{ChainTiers}
-use Rattle.search.specs.Rules.{IsWhole, Hashed, keyAt, EntryFits, SlotsFit, EntriesFit}
+use Rattle.search.specs.Rules.{IsWhole, Hashed, keyAt, EntryFits, SlotsFit, EntriesFit, chunksAt}
 use Rattle.search.specs.Landing.{Lands, SlotHolds, SlotSays}
 use Rattle.search.specs.Asking.{HasKey}
 use Rattle.search.proofs.Landing.{lands-once, lands-all-reached, all-land}
@@ -35,72 +34,83 @@ use Rattle.search.proofs.Landing.{lands-once, lands-all-reached, all-la
 pub key-cut : (l : List ℕ) (at n : ℕ) → take (at + n - at) (drop at l) ≡ cut l at n
 key-cut l at n = let e : at + n - at ≡ n = omega arith in ap (λ (k : ℕ). take k (drop at l)) e
 
-module _ (z : Shape) (img : List ℕ) (s t j : ℕ) where
+-- ---- the entry of a full slot
+
+-- the slot holds v, with c as its first chunk, where the entry e stands
+pub record Held (z : Shape) (img : List ℕ) (t j v c : ℕ) (e : Entry) : Type 0 where
+  pub holds : v ≡ slotAt z img t j
+  pub first : c ≡ slotChunk (z .settings) v
+  pub whole : stored z img t c ≡ Whole e
+
+pub held : {z : Shape} {img : List ℕ} {t j v c : ℕ} {e : Entry} {r : Stored} → v ≡ slotAt z img t j → c ≡ slotChunk (z .settings) v → r ≡ stored z img t c
+    → r ≡ Whole e → Held z img t j v c e
+held ev ec er w = record { holds = ev; first = ec; whole = sym er ∙ w }
+
+pub fits-broken : {z : Shape} {img : List ℕ} {s t j v c : ℕ} → v ≡ slotAt z img t j → c ≡ slotChunk (z .settings) v → stored z img t c ≡ Broken
+    → EntryFits z img s t j → ⊥
+fits-broken {z} {img} {s} {t} ev ec b f = subst IsWhole (ap (stored z img t) (sym (ec ∙ ap (slotChunk (z .settings)) ev)) ∙ b) (f .whole)
+
+module _ {z : Shape} {img : List ℕ} {t j v c : ℕ} {e : Entry} (h : Held z img t j v c e) where
   open Shape z using (settings)
-  open Settings settings using (slots, chunks, mostChunks)
+  open Settings settings using (chunks)
 
-  module _ (v c : ℕ) (ev : v ≡ slotAt z img t j) (ec : c ≡ slotChunk settings v) where
-    chunk-is : c ≡ chunkOf z img t j
-    chunk-is = ec ∙ ap (slotChunk settings) ev
+  chunk-is : c ≡ chunkOf z img t j
+  chunk-is = h .first ∙ ap (slotChunk settings) (h .holds)
 
-    pub fits-broken : stored z img t c ≡ Broken → EntryFits z img s t j → ⊥
-    fits-broken b f = subst IsWhole (ap (stored z img t) (sym chunk-is) ∙ b) (f .whole)
+  entry-is : entryAt z img t j ≡ e
+  unfolding entryAt
+  entry-is = ap (λ (k : ℕ). entryOf (stored z img t k)) (sym chunk-is) ∙ ap entryOf (h .whole)
 
-    module _ (e : Entry) (w : stored z img t c ≡ Whole e) where
-      entry-is : entryAt z img t j ≡ e
-      unfolding entryAt
-      entry-is = ap (λ (k : ℕ). entryOf (stored z img t k)) (sym chunk-is) ∙ ap entryOf w
+  key-is : keyOf img e ≡ keyAt z img t j
+  unfolding keyAt
+  key-is = ap (keyOf img) (sym entry-is)
 
-      pub sound : WholeAt z img t c e
-      sound = whole-sound z img t c e w
+  chunks-is : {n : ℕ} → n ≡ chunksFor settings (e .keyLength) (e .valueLength) → n ≡ chunksAt z img t j
+  chunks-is q = q ∙ ap (λ (x : Entry). chunksFor settings (x .keyLength) (x .valueLength)) (sym entry-is)
 
-      pub small : Lengths (e .keyLength) (e .valueLength)
-      small = record { keySmall = sound .keySmall; valueSmall = sound .valueSmall }
+  pub sound : WholeAt z img t c e
+  sound = whole-sound z img t c e (h .whole)
 
-      pub key-short : e .keyLength < 1 → EntryFits z img s t j → ⊥
-      key-short h f = omega (arith, f .keyLength, ap (λ (x : Entry). x .keyLength) entry-is)
+  pub held-inside : FramedTier z img t → e .keyAt + e .keyLength ≤ length img
+  held-inside tier = key-in-image z img t c sound (tier .framed) (tier .tierIn)
 
-      pub key-long : 1024 < e .keyLength → EntryFits z img s t j → ⊥
-      key-long h f = omega (arith, f .keyLength, ap (λ (x : Entry). x .keyLength) entry-is)
+  pub key-taken : take (e .keyAt + e .keyLength - e .keyAt) (drop (e .keyAt) img) ≡ keyOf img e
+  key-taken = key-cut img (e .keyAt) (e .keyLength)
 
-      chunks-is : (n : ℕ) → n ≡ chunksFor settings (e .keyLength) (e .valueLength)
-          → n ≡ chunksFor settings (entryAt z img t j .keyLength) (entryAt z img t j .valueLength)
-      chunks-is n q = q ∙ ap (λ (x : Entry). chunksFor settings (x .keyLength) (x .valueLength)) (sym entry-is)
+  -- a rule is broken
 
-      pub too-many : (n : ℕ) → n ≡ chunksFor settings (e .keyLength) (e .valueLength) → mostChunks < n → EntryFits z img s t j → ⊥
-      too-many n q h f = omega (arith, f .notTooMany, chunks-is n q)
+  module _ {s : ℕ} where
+    pub key-wrong : {key : List ℕ} → key ≡ keyOf img e → (KeyFits settings key → ⊥) → EntryFits z img s t j → ⊥
+    key-wrong q b f = b (rw (q, key-is) (f .keyFits))
 
-      pub too-far : (n : ℕ) → n ≡ chunksFor settings (e .keyLength) (e .valueLength) → chunks < c + n → EntryFits z img s t j → ⊥
-      too-far n q h f = omega (arith, f .rangeEnds, chunks-is n q, chunk-is)
+    pub value-wrong : (ValueFits settings (e .keyLength) (e .valueLength) → ⊥) → EntryFits z img s t j → ⊥
+    value-wrong b f = b (subst (λ (x : Entry). ValueFits settings (x .keyLength) (x .valueLength)) entry-is (f .valueFits))
 
-      key-is : keyOf img e ≡ keyAt z img t j
-      unfolding keyAt
-      key-is = ap (keyOf img) (sym entry-is)
+    pub too-far : {n : ℕ} → n ≡ chunksFor settings (e .keyLength) (e .valueLength) → chunks < c + n → EntryFits z img s t j → ⊥
+    too-far q l f = omega (arith, f .rangeEnds, chunks-is q, chunk-is)
 
-      pub hash-wrong : (Hashed settings s v (keyOf img e) → ⊥) → EntryFits z img s t j → ⊥
-      hash-wrong b f = b (rw (ev, key-is) (f .hashed))
+    pub hash-wrong : (Hashed settings s v (keyOf img e) → ⊥) → EntryFits z img s t j → ⊥
+    hash-wrong b f = b (rw (h .holds, key-is) (f .hashed))
 
-      pub entry-right : slotRest settings v ≡ 0 → 1 ≤ e .keyLength → e .keyLength ≤ 1024 → (n : ℕ)
-          → n ≡ chunksFor settings (e .keyLength) (e .valueLength) → n ≤ mostChunks
-          → c + n ≤ chunks → Hashed settings s v (keyOf img e) → EntryFits z img s t j
-      entry-right r lo hi n q most end h =
-          let ke : entryAt z img t j .keyLength ≡ e .keyLength = ap (λ (x : Entry). x .keyLength) entry-is in
-          let ve : entryAt z img t j .valueLength ≡ e .valueLength = ap (λ (x : Entry). x .valueLength) entry-is in
-          record {
-            higherBits = ap (slotRest settings) (sym ev) ∙ r;
-            chunkIn = omega (arith, whole-chunk z img t c sound, chunk-is);
-            whole = subst IsWhole (sym (ap (stored z img t) (sym chunk-is) ∙ w)) tt;
-            keyLength = omega arith;
-            valueLength = omega (arith, sound .valueSmall);
-            notTooMany = omega (arith, chunks-is n q);
-            rangeEnds = omega (arith, chunks-is n q, chunk-is);
-            hashed = rw (ev, key-is) at h;
-          }
+    -- or all hold
 
-      -- with the chunks that it covers
-      pub entry-says : (n : ℕ) → n ≡ chunksFor settings (e .keyLength) (e .valueLength) → EntryFits z img s t j
-          → SlotSays z img (EntryFits z img s t j) t j (Fits c n)
-      entry-says n q f = (f, (chunk-is, chunks-is n q))
+    pub entry-right : {n : ℕ} → slotRest settings v ≡ 0 → KeyFits settings (keyOf img e) → ValueFits settings (e .keyLength) (e .valueLength)
+        → n ≡ chunksFor settings (e .keyLength) (e .valueLength) → c + n ≤ chunks → Hashed settings s v (keyOf img e) → EntryFits z img s t j
+    entry-right r key value q end hash =
+        record {
+          higherBits = ap (slotRest settings) (sym (h .holds)) ∙ r;
+          chunkIn = omega (arith, whole-chunk z img t c sound, chunk-is);
+          whole = subst IsWhole (sym (ap (stored z img t) (sym chunk-is) ∙ h .whole)) tt;
+          keyFits = rw key-is at key;
+          valueFits = subst (λ (x : Entry). ValueFits settings (x .keyLength) (x .valueLength)) (sym entry-is) value;
+          rangeEnds = omega (arith, chunks-is q, chunk-is);
+          hashed = rw (h .holds, key-is) at hash;
+        }
+
+    -- with the chunks that it covers
+    pub entry-says : {n : ℕ} → n ≡ chunksFor settings (e .keyLength) (e .valueLength) → EntryFits z img s t j
+        → SlotSays z img (EntryFits z img s t j) t j (Fits c n)
+    entry-says q f = (f, (chunk-is, chunks-is q))
 
 -- ---- where a search ended
 

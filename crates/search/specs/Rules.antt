@@ -8,14 +8,13 @@ use Rattle.lists.specs.Decide.{both, implied, refuted, rule, someBelow}
 use Rattle.lists.specs.Quantify.{Below, Every, below?, every?}
 use Rattle.words.specs.Same.{same?}
 use Rattle.settings.specs.declared.Settings.{Settings}
-use Rattle.settings.specs.Decide.{between?}
 use Rattle.layout.specs.declared.Shape.{Shape}
 use Rattle.chains.specs.Chains.{chain}
 use Rattle.probe.specs.Ring.{dist}
 use Rattle.entries.specs.declared.Stored.{Stored}
 use Rattle.entries.specs.declared.Stored.the-variants.{Whole, Broken}
-use Rattle.entries.specs.Keys.{KeyFits, segmentOf, lookupKey, start, slotKey, slotRest}
-use Rattle.entries.specs.Stored.{stored, keyOf, chunksFor}
+use Rattle.entries.specs.Keys.{KeyFits, segmentOf, lookupKey, start, slotKey, slotRest, keyFits?}
+use Rattle.entries.specs.Stored.{stored, keyOf, chunksFor, ValueFits, valueFits?}
 use Rattle.entries.specs.Live.{slotAt, chunkOf, entryAt}
 
 -- an entry could be read
@@ -40,7 +39,7 @@ hashed? st s v key =
 
 module _ (z : Shape) (img : List ℕ) where
   open Shape z using (settings)
-  open Settings settings using (segments, slots, chunks, mostChunks)
+  open Settings settings using (segments, slots, chunks)
 
   -- the key that slot j of tier t stands for
   unfoldable pub keyAt : ℕ → ℕ → List ℕ
@@ -55,9 +54,8 @@ module _ (z : Shape) (img : List ℕ) where
     pub higherBits : slotRest settings (slotAt z img t j) ≡ 0
     pub chunkIn : chunkOf z img t j < chunks
     pub whole : IsWhole (stored z img t (chunkOf z img t j))
-    pub keyLength : KeyFits settings (entryAt z img t j .keyLength)
-    pub valueLength : entryAt z img t j .valueLength ≤ 65535
-    pub notTooMany : chunksAt t j ≤ mostChunks
+    pub keyFits : KeyFits settings (keyAt t j)
+    pub valueFits : ValueFits settings (entryAt z img t j .keyLength) (entryAt z img t j .valueLength)
     pub rangeEnds : chunkOf z img t j + chunksAt t j ≤ chunks
     pub hashed : Hashed settings s (slotAt z img t j) (keyAt t j)
 
@@ -107,20 +105,18 @@ module _ (z : Shape) (img : List ℕ) where
       rule (λ v. v .higherBits) (ℕ-discrete (slotRest settings (slotAt z img t j)) 0) λ a.
       rule (λ v. v .chunkIn) (decLt (chunkOf z img t j) chunks) λ b.
       rule (λ v. v .whole) (isWhole? (stored z img t (chunkOf z img t j))) λ c.
-      rule (λ v. v .keyLength) (between? 1 1024 (entryAt z img t j .keyLength)) λ d.
-      rule (λ v. v .valueLength) (decLe (entryAt z img t j .valueLength) 65535) λ e.
-      rule (λ v. v .notTooMany) (decLe (chunksAt t j) mostChunks) λ f.
-      rule (λ v. v .rangeEnds) (decLe (chunkOf z img t j + chunksAt t j) chunks) λ g.
-      rule (λ v. v .hashed) (hashed? settings s (slotAt z img t j) (keyAt t j)) λ h.
+      rule (λ v. v .keyFits) (keyFits? settings (keyAt t j)) λ d.
+      rule (λ v. v .valueFits) (valueFits? settings (entryAt z img t j .keyLength) (entryAt z img t j .valueLength)) λ e.
+      rule (λ v. v .rangeEnds) (decLe (chunkOf z img t j + chunksAt t j) chunks) λ f.
+      rule (λ v. v .hashed) (hashed? settings s (slotAt z img t j) (keyAt t j)) λ g.
       yes (record {
         higherBits = a;
         chunkIn = b;
         whole = c;
-        keyLength = d;
-        valueLength = e;
-        notTooMany = f;
-        rangeEnds = g;
-        hashed = h;
+        keyFits = d;
+        valueFits = e;
+        rangeEnds = f;
+        hashed = g;
       })
 
   unfoldable pub slotsFit? : (s t : ℕ) → Dec (SlotsFit s t)

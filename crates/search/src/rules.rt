@@ -1,6 +1,7 @@
 // The rules of slots and entries, for one slot: first its entry by itself, then that its key is found in it.
 use entries::Entry;
 use entries::Stored;
+use entries::ValueSize;
 use layout::Shape;
 use probe::Cursor;
 ghost use mathlib.Core.Path.{_≡_};
@@ -50,16 +51,14 @@ fn entry_fits(z: Shape, img: &[u8], s: usize, t: usize, j: usize) -> Slot
     let Stored::Whole(e) = entries::read::stored(z, img, t, c) else {
         return Slot::Broken;
     };
-    if e.keyLength < 1 {
+    let from = e.keyAt;
+    let to = e.keyAt + e.keyLength;
+    if !entries::key_fits(st, &img[from..to]) {
         return Slot::Broken;
     }
-    if 1024 < e.keyLength {
+    let ValueSize::Fits(n) = entries::value_fits(st, e.keyLength, e.valueLength) else {
         return Slot::Broken;
-    }
-    let n = entries::chunks_for(st, e.keyLength, e.valueLength);
-    if st.mostChunks < n {
-        return Slot::Broken;
-    }
+    };
     if st.chunks < c + n {
         return Slot::Broken;
     }

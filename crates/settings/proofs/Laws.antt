@@ -9,47 +9,28 @@ use lib.Pow.{pow-mono, pow-pos}
 use lib.Dec.{eqb}
 use Rattle.lists.specs.Cases.{lt-or, same-or}
 use Rattle.lists.specs.Decide.{Decides}
-use Rattle.lists.proofs.Decides.{decides-eq}
+use Rattle.lists.proofs.Decides.{decides-eq, choose-by, choose-no, choose-yes}
 use Rattle.settings.specs.declared.Settings.{Settings}
+use Rattle.settings.specs.declared.Parsed.{Parsed}
 use Rattle.settings.specs.declared.Parsed.the-variants.{Accepted, BadBlock, BadField}
 use Rattle.settings.specs.Rules.{PowerOfTwo, SlotSize, Valid, largest}
 use Rattle.settings.specs.Decide.{valid?}
-use Rattle.settings.specs.Block.{BlockFits, blockFits?, settingsOf, fromRules, fromBlock, parse}
+use Rattle.settings.specs.Block.{BlockFits, blockFits?, settingsOf, parse}
 
 -- ---- parsing accepts exactly the blocks that fit and whose numbers meet every rule
-
-rules-broken : (st : Settings) (d : Dec (Valid st)) → (Valid st → ⊥) → fromRules st d ≡ BadField
-unfolding fromRules
-rules-broken st (no _) h = refl
-rules-broken st (yes v) h = absurd (h v)
-
-rules-met : (st : Settings) (d : Dec (Valid st)) → Valid st → fromRules st d ≡ Accepted st
-unfolding fromRules
-rules-met st (no n) v = absurd (n v)
-rules-met st (yes _) v = refl
-
-block-broken : (block : List ℕ) (d : Dec (BlockFits block)) → (BlockFits block → ⊥) → fromBlock block d ≡ BadBlock
-unfolding fromBlock
-block-broken block (no _) h = refl
-block-broken block (yes f) h = absurd (h f)
-
-block-met : (block : List ℕ) (d : Dec (BlockFits block)) → BlockFits block → fromBlock block d ≡ fromRules (settingsOf block) (valid? (settingsOf block))
-unfolding fromBlock
-block-met block (no n) f = absurd (n f)
-block-met block (yes _) f = refl
 
 module _ (block : List ℕ) where
   pub parse-bad-block : (BlockFits block → ⊥) → parse block ≡ BadBlock
   unfolding parse
-  parse-bad-block h = block-broken block (blockFits? block) h
+  parse-bad-block h = choose-no (blockFits? block) _ _ h
 
   pub parse-bad-field : BlockFits block → (Valid (settingsOf block) → ⊥) → parse block ≡ BadField
   unfolding parse
-  parse-bad-field f h = block-met block (blockFits? block) f ∙ rules-broken (settingsOf block) (valid? (settingsOf block)) h
+  parse-bad-field f h = choose-yes (blockFits? block) _ _ f ∙ choose-no (valid? (settingsOf block)) _ _ h
 
   pub parse-accepts : BlockFits block → Valid (settingsOf block) → parse block ≡ Accepted (settingsOf block)
   unfolding parse
-  parse-accepts f v = block-met block (blockFits? block) f ∙ rules-met (settingsOf block) (valid? (settingsOf block)) v
+  parse-accepts f v = choose-yes (blockFits? block) _ _ f ∙ choose-yes (valid? (settingsOf block)) _ _ v
 
   -- and nothing else is accepted
   pub record Accepts (st : Settings) : Type 0 where
@@ -57,19 +38,15 @@ module _ (block : List ℕ) where
     pub is : st ≡ settingsOf block
     pub valid : Valid st
 
-  from-rules : (st : Settings) → BlockFits block → (d : Dec (Valid (settingsOf block))) → fromRules (settingsOf block) d ≡ Accepted st → Accepts st
-  unfolding fromRules
-  from-rules st f (no _) e = absurd (let z : _≡_ {A = ℕ} 0 1 = cc in omega arith)
-  from-rules st f (yes v) e = let same : settingsOf block ≡ st = cc in record { block-fits = f; is = sym same; valid = rw (← same) v }
-
-  from-block : (st : Settings) (d : Dec (BlockFits block)) → fromBlock block d ≡ Accepted st → Accepts st
-  unfolding fromBlock
-  from-block st (no _) e = absurd (let z : _≡_ {A = ℕ} 0 1 = cc in omega arith)
-  from-block st (yes f) e = from-rules st f (valid? (settingsOf block)) e
+  abbrev Only : Settings → Parsed → Type 0
+  Only st x = x ≡ Accepted st → Accepts st
 
   pub parse-only : (st : Settings) → parse block ≡ Accepted st → Accepts st
   unfolding parse
-  parse-only st e = from-block st (blockFits? block) e
+  parse-only st =
+      choose-by (blockFits? block) _ _ (Only st) (λ _ e. absurd (let z : _≡_ {A = ℕ} 0 1 = cc in omega arith)) λ f.
+      choose-by (valid? (settingsOf block)) _ _ (Only st) (λ _ e. absurd (let z : _≡_ {A = ℕ} 0 1 = cc in omega arith)) λ v e.
+      let same : settingsOf block ≡ st = cc in record { block-fits = f; is = sym same; valid = rw (← same) v }
 
 -- ---- what the rules bound
 

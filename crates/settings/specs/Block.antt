@@ -1,46 +1,39 @@
--- The settings block: 71 bytes to 17 numbers, or a refusal.
+-- The settings block: its bytes to numbers, or a refusal.
 use Prim.Native.Nat.{ℕ, _+_, _*_}
 use mathlib.Core.List.{List}
 use mathlib.Core.Path.{_≡_}
-use native.Mathlib.Decide.{ℕ-discrete}
+use native.Mathlib.Decide.{decLt, ℕ-discrete}
 use lib.ListN.{length, getD}
 use Rattle.words.specs.Numbers.{be}
 use Rattle.settings.specs.declared.Settings.{Settings}
 use Rattle.settings.specs.declared.Parsed.{Parsed}
 use Rattle.settings.specs.declared.Parsed.the-variants.{Accepted, BadBlock, BadField}
-use Rattle.settings.specs.Rules.{Valid}
-use Rattle.lists.specs.Decide.{rule}
+use Rattle.lists.specs.Decide.{choose, rule}
 use Rattle.settings.specs.Decide.{valid?}
+use Rattle.settings.specs.Versions.{fieldsOf, KnownVersion, headSize, blockSize, lengthField}
 
 -- ---- the block: its version, its length and its length field
 
 abbrev pub version : List ℕ → ℕ
 version block = getD block 2 0
 
-abbrev pub KnownVersion : ℕ → Type 0
-KnownVersion v = v ≡ 1
-
--- the bytes after the length field, in a block of a known version
-abbrev pub blockLength : ℕ → ℕ
-blockLength v = 69
-
 pub record BlockFits (block : List ℕ) : Type 0 where
   pub knownVersion : KnownVersion (version block)
-  pub whole : length block ≡ 2 + blockLength (version block)
-  pub lengthField : be block 0 2 ≡ blockLength (version block)
+  pub whole : length block ≡ blockSize (fieldsOf (version block))
+  pub lengthIs : be block 0 2 ≡ lengthField (fieldsOf (version block))
 
 unfoldable pub blockFits? : (block : List ℕ) → Dec (BlockFits block)
 blockFits? block =
-    rule (λ v. v .knownVersion) (ℕ-discrete (version block) 1) λ k.
-    rule (λ v. v .whole) (ℕ-discrete (length block) (2 + blockLength (version block))) λ w.
-    rule (λ v. v .lengthField) (ℕ-discrete (be block 0 2) (blockLength (version block))) λ f.
-    yes (record { knownVersion = k; whole = w; lengthField = f })
+    rule (λ v. v .knownVersion) (decLt 0 (fieldsOf (version block))) λ k.
+    rule (λ v. v .whole) (ℕ-discrete (length block) (blockSize (fieldsOf (version block)))) λ w.
+    rule (λ v. v .lengthIs) (ℕ-discrete (be block 0 2) (lengthField (fieldsOf (version block)))) λ f.
+    yes (record { knownVersion = k; whole = w; lengthIs = f })
 
 -- ---- the numbers
 
 -- the number in row i + 1 of the table
 unfoldable pub field : List ℕ → ℕ → ℕ
-field block i = be block (3 + 4 * i) 4
+field block i = be block (headSize + 4 * i) 4
 
 unfoldable pub settingsOf : List ℕ → Settings
 settingsOf block =
@@ -66,13 +59,8 @@ settingsOf block =
 
 -- ---- the answer
 
-unfoldable pub fromRules : (st : Settings) → Dec (Valid st) → Parsed
-fromRules st (no _) = BadField
-fromRules st (yes _) = Accepted st
-
-unfoldable pub fromBlock : (block : List ℕ) → Dec (BlockFits block) → Parsed
-fromBlock block (no _) = BadBlock
-fromBlock block (yes _) = fromRules (settingsOf block) (valid? (settingsOf block))
-
 unfoldable pub parse : List ℕ → Parsed
-parse block = fromBlock block (blockFits? block)
+parse block =
+    choose (blockFits? block) (λ _. BadBlock) λ _.
+    choose (valid? (settingsOf block)) (λ _. BadField) λ _.
+    Accepted (settingsOf block)

@@ -1,4 +1,5 @@
 pub mod Rules
 pub mod Decide
+pub mod Versions
 pub mod Block
 pub mod Worked

@@ -12,6 +12,19 @@ Between low high x = (low ≤ x) × (x ≤ high)
 abbrev pub largest : ℕ
 largest = 16777216
 
+-- the limits of other fields that code above needs: slots and chunks of a tier, bytes of a chunk, and bytes before the first chunk
+abbrev pub mostTierSlots : ℕ
+mostTierSlots = 4096
+
+abbrev pub mostTierChunks : ℕ
+mostTierChunks = 4096
+
+abbrev pub largestChunk : ℕ
+largestChunk = 4096
+
+abbrev pub largestInner : ℕ
+largestInner = 4096
+
 -- of the powers that a field can hold
 abbrev pub PowerOfTwo : ℕ → Type 0
 PowerOfTwo n = (k : ℕ) × ((k < 25) × (n ≡ 2 ^ k))
@@ -34,7 +47,7 @@ SlotSize st = (st .slotSize ≡ 4) ⊎ (st .slotSize ≡ 8)
 
 -- 5: slots per tier
 abbrev pub Slots : Settings → Type 0
-Slots st = PowerOfTwo (st .slots) × Between 4 4096 (st .slots)
+Slots st = PowerOfTwo (st .slots) × Between 4 mostTierSlots (st .slots)
 
 -- 6: key bits
 abbrev pub KeyBits : Settings → Type 0
@@ -54,15 +67,15 @@ FreeListSize st = Between ((st .chunks + 7) / 8) largest (st .freeListSize)
 
 -- 10: entry space inner offset
 abbrev pub InnerOffset : Settings → Type 0
-InnerOffset st = st .innerOffset ≤ 4096
+InnerOffset st = st .innerOffset ≤ largestInner
 
 -- 11: chunks per tier
 abbrev pub Chunks : Settings → Type 0
-Chunks st = Between 1 4096 (st .chunks)
+Chunks st = Between 1 mostTierChunks (st .chunks)
 
 -- 12: chunk size
 abbrev pub ChunkSize : Settings → Type 0
-ChunkSize st = Between 1 4096 (st .chunkSize)
+ChunkSize st = Between 1 largestChunk (st .chunkSize)
 
 -- 13: tier size
 abbrev pub TierSize : Settings → Type 0
@@ -84,6 +97,17 @@ BulkSize st = Between (st .bulkInner + st .bulkTiers * st .tierSize) largest (st
 abbrev pub MostChunks : Settings → Type 0
 MostChunks st = Between 1 64 (st .mostChunks) × (st .mostChunks ≤ st .chunks)
 
+-- the rules of the numbers that the sizes are made of
+pub record PartsFit (st : Settings) : Type 0 where
+  pub slotSize : SlotSize st
+  pub slots : Slots st
+  pub chunks : Chunks st
+  pub chunkSize : ChunkSize st
+  pub innerOffset : InnerOffset st
+  pub bulkInner : BulkInner st
+  pub bulkTiers : BulkTiers st
+
+-- all 17
 pub record Valid (st : Settings) : Type 0 where
   pub globalAt : GlobalAt st
   pub segments : Segments st

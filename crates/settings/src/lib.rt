@@ -1,9 +1,10 @@
-// The settings block: 71 bytes that say how an image is laid out.
+// The settings block: bytes that say how an image is laid out.
 ghost use mathlib.Core.Path.{_≡_};
-ghost use Prim.Native.Nat.{_+_, _<_, _≤_};
+ghost use Prim.Native.Nat.{_+_, _*_, _≤_};
 ghost use lib.ListN.{length};
 ghost use Rattle.lists.specs.Decide.{Decides};
-ghost use Rattle.settings.specs.Rules.{PowerOfTwo, Valid, GlobalAt, Segments, HeaderSize, SlotSize, Slots, KeyBits, ChunkBits};
+ghost use Rattle.settings.specs.Versions.{headSize, leastFields, mostFields, blockSize, fieldsOf};
+ghost use Rattle.settings.specs.Rules.{mostTierSlots, PowerOfTwo, PartsFit, Valid, GlobalAt, Segments, HeaderSize, SlotSize, Slots, KeyBits, ChunkBits};
 ghost use Rattle.settings.specs.Rules.{LookupSize, FreeListSize, InnerOffset, Chunks, ChunkSize, TierSize, BulkInner, BulkTiers, BulkSize, MostChunks};
 ghost use Rattle.settings.specs.Block.{BlockFits, field as Block·field, settingsOf, parse as Block·parse};
 
@@ -35,21 +36,57 @@ pub enum Parsed {
     BadField,
 }
 
-// The version that is known, and what the length field of its block says.
-const VERSION: u8 = 1;
+// The bytes of a block before its fields: the length field and the version.
+pub const HEAD_SIZE: usize = 3;
 
-const BLOCK_LENGTH: usize = 69;
+// The most fields in the table of versions.
+pub const MOST_FIELDS: usize = 17;
+
+// No field, and no image, is larger.
+pub const LARGEST: usize = 16777216;
+
+// The most slots and chunks of a tier, bytes of a chunk, and bytes before the first chunk.
+pub const MOST_TIER_SLOTS: usize = 4096;
+
+pub const MOST_TIER_CHUNKS: usize = 4096;
+
+pub const LARGEST_CHUNK: usize = 4096;
+
+pub const LARGEST_INNER: usize = 4096;
+
+// The table of versions: the fields of each; 0 for a version that is not known.
+pub fn fields_of(version: u8) -> usize
+    ensures { λ r. ⌜ (r ≡ fieldsOf version) × (r ≤ mostFields) ⌝ }
+{
+    match version {
+        1 => 17,
+        _ => 0,
+    }
+}
+
+// The bytes of a block with so many fields.
+pub fn block_size(fields: usize) -> usize
+    requires { ⌜ fields ≤ mostFields ⌝ }
+    ensures { λ r. ⌜ r ≡ blockSize fields ⌝ }
+{
+    HEAD_SIZE + 4 * fields
+}
 
 fn block_fits(block: &[u8]) -> bool
     ensures { λ r. ⌜ Decides r (BlockFits (now (block .entry))) ⌝ }
 {
-    if block.len() != BLOCK_LENGTH + 2 {
+    if block.len() < HEAD_SIZE {
         return false;
     }
-    if block[2] != VERSION {
+    let fields = fields_of(block[2]);
+    if fields == 0 {
         return false;
     }
-    if words::read_be(block, 0, 2) != BLOCK_LENGTH as u64 {
+    if block.len() != block_size(fields) {
+        return false;
+    }
+    // what comes after the length field
+    if words::read_be(block, 0, 2) != block.len() as u64 - 2 {
         return false;
     }
     true
@@ -57,14 +94,14 @@ fn block_fits(block: &[u8]) -> bool
 
 // The number in row i + 1 of the table.
 fn field(block: &[u8], i: usize) -> usize
-    requires { ⌜ (length (now block) ≡ 71) × (i < 17) ⌝ }
+    requires { ⌜ headSize + 4 * i + 4 ≤ length (now block) ⌝ }
     ensures { λ r. ⌜ r ≡ Block·field (now (block .entry)) i ⌝ }
 {
-    words::read_be(block, 3 + 4 * i, 4) as usize
+    words::read_be(block, HEAD_SIZE + 4 * i, 4) as usize
 }
 
 fn settings_of(block: &[u8]) -> Settings
-    requires { ⌜ length (now block) ≡ 71 ⌝ }
+    requires { ⌜ blockSize leastFields ≤ length (now block) ⌝ }
     ensures { λ r. ⌜ r ≡ settingsOf (now (block .entry)) ⌝ }
 {
     Settings {
@@ -89,7 +126,7 @@ fn settings_of(block: &[u8]) -> Settings
 }
 
 fn power_of_two(n: usize) -> bool
-    requires { ⌜ n ≤ 4096 ⌝ }
+    requires { ⌜ n ≤ mostTierSlots ⌝ }
     ensures { λ r. ⌜ Decides r (PowerOfTwo n) ⌝ }
 {
     let mut p = 1;
@@ -123,7 +160,7 @@ fn counts_fit(st: Settings) -> bool
     if st.slots < 4 {
         return false;
     }
-    if 4096 < st.slots {
+    if MOST_TIER_SLOTS < st.slots {
         return false;
     }
     if !power_of_two(st.segments) {
@@ -169,7 +206,7 @@ fn bits_fit(st: Settings) -> bool
     if st.chunks < 1 {
         return false;
     }
-    if 4096 < st.chunks {
+    if MOST_TIER_CHUNKS < st.chunks {
         return false;
     }
     if 1usize << st.chunkBits < st.chunks {
@@ -181,13 +218,13 @@ fn bits_fit(st: Settings) -> bool
 fn ranges_fit(st: Settings) -> bool
     ensures { λ r. ⌜ Decides r (InnerOffset st × ChunkSize st × BulkInner st × BulkTiers st × MostChunks st) ⌝ }
 {
-    if 4096 < st.innerOffset {
+    if LARGEST_INNER < st.innerOffset {
         return false;
     }
     if st.chunkSize < 1 {
         return false;
     }
-    if 4096 < st.chunkSize {
+    if LARGEST_CHUNK < st.chunkSize {
         return false;
     }
     if 65536 < st.bulkInner {
@@ -212,19 +249,19 @@ fn ranges_fit(st: Settings) -> bool
 }
 
 fn sizes_fit(st: Settings) -> bool
-    requires { ⌜ SlotSize st × Slots st × Chunks st × ChunkSize st × InnerOffset st × BulkInner st × BulkTiers st ⌝ }
+    requires { ⌜ PartsFit st ⌝ }
     ensures { λ r. ⌜ Decides r (LookupSize st × FreeListSize st × TierSize st × BulkSize st) ⌝ }
 {
     if st.lookupSize < st.slots * st.slotSize {
         return false;
     }
-    if 16777216 < st.lookupSize {
+    if LARGEST < st.lookupSize {
         return false;
     }
     if st.freeListSize < (st.chunks + 7) / 8 {
         return false;
     }
-    if 16777216 < st.freeListSize {
+    if LARGEST < st.freeListSize {
         return false;
     }
     if st.tierSize
@@ -232,13 +269,13 @@ fn sizes_fit(st: Settings) -> bool
     {
         return false;
     }
-    if 16777216 < st.tierSize {
+    if LARGEST < st.tierSize {
         return false;
     }
     if st.bulkSize < st.bulkInner + st.bulkTiers * st.tierSize {
         return false;
     }
-    if 16777216 < st.bulkSize {
+    if LARGEST < st.bulkSize {
         return false;
     }
     true

@@ -24,7 +24,7 @@ use Rattle.entries.specs.declared.Live.{Live}
 use Rattle.entries.specs.declared.Stored.{Stored}
 use Rattle.entries.specs.declared.Stored.the-variants.{Whole, Broken}
 use Rattle.entries.specs.Keys.{KeyFits, segmentOf, lookupKey, start, slotChunk, slotKey, slotRest}
-use Rattle.entries.specs.Stored.{stored, entryOf, keyOf, valueOf, entrySize, chunksFor}
+use Rattle.entries.specs.Stored.{stored, entryOf, keyOf, valueOf, entrySize, chunksFor, ValueFits}
 use Rattle.entries.specs.Live.{slotAt, entryAt, fullSlots, liveAt, liveIn}
 use Rattle.lists.proofs.Numbers.{ceil-enough}
 use Rattle.entries.proofs.Whole.{WholeAt, whole-sound, stored-ext, key-before}
@@ -140,9 +140,8 @@ module _ (z : Shape) (img img′ : List ℕ) (u : ℕ) where
               higherBits = ap (slotRest settings) e ∙ f .higherBits;
               chunkIn = omega (arith, chunk, f .chunkIn);
               whole = subst IsWhole (sym st) (f .whole);
-              keyLength = subst (λ (x : Stored). KeyFits settings (entryOf x .keyLength)) (sym st) (f .keyLength);
-              valueLength = subst (λ (x : Stored). entryOf x .valueLength ≤ 65535) (sym st) (f .valueLength);
-              notTooMany = omega (arith, many, f .notTooMany);
+              keyFits = subst (KeyFits settings) (sym key′) (f .keyFits);
+              valueFits = subst (λ (x : Stored). ValueFits settings (entryOf x .keyLength) (entryOf x .valueLength)) (sym st) (f .valueFits);
               rangeEnds = omega (arith, chunk, many, f .rangeEnds);
               hashed =
                   record {

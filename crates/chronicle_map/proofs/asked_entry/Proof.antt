@@ -1,5 +1,6 @@
 use native.Mathlib.Omega.{arith}
-use Rattle.chronicle_map.proofs.Asking.{key-valid, entry-refused, entry-lengths, value-long, too-many, entry-right}
+use Rattle.entries.proofs.Sizes.{size-broken, size-told}
+use Rattle.chronicle_map.proofs.Asking.{key-valid, entry-refused, entry-right, key-ready, value-wrong}
 use borrow.Author.Needs.{needs}
 use Rattle.chronicle_map.proofs.asked_entry.Statement.{statement}
 use Rattle.chronicle_map.proofs.asked_entry.Tie as tie
@@ -20,46 +21,43 @@ returns c =
     entry-refused (start .args .block .now) (start .args .img .now) (start .args .key .now) (start .args .value .now) (asked-key .result)
     (asked-key .ensures) (c .enum-told .given .0 .0) (c .enum-told .given .1)
 
+value-fits-requires : tie.Need-value-fits-requires
+value-fits-requires c κs =
+    let p = c .before in let asked = p .asked in
+    let p = p .before .before in let asked-key = p .asked-key in
+    let start = p .before .before .before .before .before in
+    let args = start .args in
+    let key = key-ready (args .block .now) (args .img .now) (args .key .now) (asked .given .0 .0) (asked .given .0 .1 .0) (asked-key .ensures)
+    (asked .given .1) .keyFits in (
+      key-valid (args .block .now) (args .img .now) (args .key .now) (asked .given .0 .0) (asked .given .0 .1 .0) (asked-key .ensures) (asked .given .1),
+      omega (arith, key .notLonger),
+    )
+
+enum-told-2 : tie.Need-enum-told-2
+enum-told-2 c = search needs
+
+enum-told-3 : tie.Need-enum-told-3
+enum-told-3 c = search needs
+
 returns-2 : tie.Need-returns-2
 returns-2 c =
-    let p = c .before .before in let asked = p .asked in
-    let p = p .before .before in let asked-key = p .asked-key in
-    let start = p .before .before .before .before .before in
-    value-long (start .args .block .now) (start .args .img .now) (start .args .key .now) (start .args .value .now) (asked-key .result)
-    (asked-key .ensures) (asked .given .0 .0) (asked .given .0 .1 .0) (asked .given .1) (c .if1 .taken)
-
-chunks-for-requires : tie.Need-chunks-for-requires
-chunks-for-requires c κs =
-    let p = c .before .before in let asked = p .asked .given in
-    let p = p .before .before in let asked-key = p .asked-key in
-    let args = p .before .before .before .before .before .args in
-    let lengths = entry-lengths (args .block .now) (args .img .now) (args .key .now) (args .value .now) (asked-key .result) (asked-key .ensures)
-    (asked .0 .0) (asked .0 .1 .0) (asked .1) (omega (arith, c .if1 .left)) in
-    record {
-      valid = key-valid (args .block .now) (args .img .now) (args .key .now) (asked .0 .0) (asked .0 .1 .0) (asked-key .ensures) (asked .1);
-      lengths = record { keySmall = lengths .0; valueSmall = lengths .1 };
-    }
-
-returns-3 : tie.Need-returns-3
-returns-3 c =
-    let p = c .before .before in let chunks-for = p .chunks-for in
-    let p = p .before .before .before in let asked = p .asked in
-    let p = p .before .before in let asked-key = p .asked-key in
-    let start = p .before .before .before .before .before in
-    too-many (start .args .block .now) (start .args .img .now) (start .args .key .now) (start .args .value .now) (asked-key .result)
-    (asked-key .ensures) (asked .given .0 .0) (asked .given .0 .1 .0) (asked .given .1) (chunks-for .result) (chunks-for .ensures)
-    (c .if2 .taken)
-
-returns-4 : tie.Need-returns-4
-returns-4 c =
-    let p = c .before .before in let chunks-for = p .chunks-for in
-    let p = p .before in let if1 = p .if1 in
+    let enum-told2 = c .enum-told2 in
+    let p = c .before .before in let value-fits = p .value-fits in
     let p = p .before .before in let asked = p .asked in
     let p = p .before .before in let asked-key = p .asked-key in
     let start = p .before .before .before .before .before in
     entry-right (start .args .block .now) (start .args .img .now) (start .args .key .now) (start .args .value .now) (asked-key .result)
-    (asked-key .ensures) (asked .given .0 .0) (asked .given .0 .1 .0) (asked .given .1) (chunks-for .result) (chunks-for .ensures)
-    (omega (arith, if1 .left)) (omega (arith, c .if2 .left))
+    (asked-key .ensures) (asked .given .0 .0) (asked .given .0 .1 .0) (asked .given .1) (size-told (value-fits .ensures) (enum-told2 .given .1) .0)
+
+returns-3 : tie.Need-returns-3
+returns-3 c =
+    let enum-told3 = c .enum-told3 in
+    let p = c .before .before in let value-fits = p .value-fits in
+    let p = p .before .before in let asked = p .asked in
+    let p = p .before .before in let asked-key = p .asked-key in
+    let start = p .before .before .before .before .before in
+    value-wrong (start .args .block .now) (start .args .img .now) (start .args .key .now) (start .args .value .now) (asked-key .result)
+    (asked-key .ensures) (asked .given .0 .0) (asked .given .0 .1 .0) (asked .given .1) (size-broken (value-fits .ensures) (enum-told3 .given .1))
 
 pub asked-entry-spec : {M : Type 1} → statement M
 asked-entry-spec =
@@ -69,7 +67,8 @@ asked-entry-spec =
     enum-known-asked
     enum-told
     returns
+    value-fits-requires
+    enum-told-2
+    enum-told-3
     returns-2
-    chunks-for-requires
-    returns-3
-    returns-4)
+    returns-3)

@@ -6,6 +6,9 @@ use borrow.Author.Needs.{needs}
 use Rattle.lister.proofs.list.Statement.{statement}
 use Rattle.lister.proofs.list.Tie as tie
 
+add-at : tie.Need-add-at
+add-at c = search needs
+
 sub-img : tie.Need-sub-img
 sub-img c = search needs
 
@@ -18,7 +21,7 @@ part-img-end c = search needs
 slice-aggregate-examine : tie.Need-slice-aggregate-examine
 slice-aggregate-examine c =
     let start = c .before .before .before in
-    sym (length-take-le 71 (start .args .input .now) (omega arith))
+    sym (length-take-le (start .args .end) (start .args .input .now) (omega arith))
 
 examine-requires : tie.Need-examine-requires
 examine-requires c κs = search needs
@@ -54,6 +57,7 @@ pub list-spec : {M : Type 1} → statement M
 list-spec =
     tie.close
     (tie.spec
+    add-at
     sub-img
     part-img-start
     part-img-end

@@ -12,16 +12,21 @@ slice-aggregate-read c = search needs
 read-requires : tie.Need-read-requires
 read-requires c κs = search needs
 
-enum-known-n : tie.Need-enum-known-n
-enum-known-n c = search needs
+enum-known-end : tie.Need-enum-known-end
+enum-known-end c = search needs
 
 array-share-prefix-buf : tie.Need-array-share-prefix-buf
 array-share-prefix-buf c =
     let p = c .before .before .before .before in let read = p .read in
-    whole-there (read .ensures) (c .before .n .given .1)
+    whole-there (read .ensures) (c .before .end .given .1)
 
 add-buf : tie.Need-add-buf
 add-buf c =
+    let p = c .before .before .before .before in let read = p .read in
+    omega (arith, array-share-prefix-buf c, read .kept .0)
+
+add-buf-2 : tie.Need-add-buf-2
+add-buf-2 c =
     let p = c .before .before .before .before in let read = p .read in
     omega (arith, array-share-prefix-buf c, read .kept .0)
 
@@ -55,8 +60,9 @@ main-spec =
     (tie.spec
     slice-aggregate-read
     read-requires
-    enum-known-n
+    enum-known-end
     add-buf
+    add-buf-2
     array-share-prefix-buf
     slice-aggregate-list
     list-requires

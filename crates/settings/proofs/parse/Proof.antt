@@ -3,6 +3,7 @@ use Rattle.settings.specs.declared.Parsed.the-variants.{Accepted}
 use mathlib.Core.Path.{sym, _∙_, ap, subst}
 use Rattle.lists.proofs.Decides.{decided-true, decided-false}
 use borrow.Author.Tests.{not-true, not-false}
+use Rattle.settings.proofs.Versions.{block-least}
 use Rattle.settings.proofs.Laws.{parse-bad-block, parse-bad-field, parse-accepts}
 use borrow.Author.Needs.{needs}
 use Rattle.settings.proofs.parse.Statement.{statement}
@@ -19,7 +20,7 @@ returns c =
 settings-of-requires : tie.Need-settings-of-requires
 settings-of-requires c κs =
     let p = c .before in let block-fits = p .block-fits in
-    (decided-true (block-fits .result) (block-fits .ensures) (not-false _ (c .if1 .left))) .whole
+    block-least _ (decided-true (block-fits .result) (block-fits .ensures) (not-false _ (c .if1 .left)))
 
 valid-requires : tie.Need-valid-requires
 valid-requires c κs = search needs

@@ -8,7 +8,7 @@ use Rattle.settings.proofs.sizes_fit.Tie as tie
 mul-if1 : tie.Need-mul-if1
 mul-if1 c =
     let start = c .before in
-    omega (arith, product-le {m = 4096} {n = 8} (start .pre .1 .1 .1) (slotSize-le (start .args .st) (start .pre .0) .1))
+    omega (arith, product-le {m = 4096} {n = 8} (start .pre .slots .1 .1) (slotSize-le (start .args .st) (start .pre .slotSize) .1))
 
 returns : tie.Need-returns
 returns c = search needs
@@ -39,12 +39,12 @@ add-if5-3 c =
 mul-if5 : tie.Need-mul-if5
 mul-if5 c =
     let start = c .before .before .before .before .before .before .before .before .before .before .before .before .before .before in
-    omega (arith, product-le {m = 4096} {n = 4096} (start .pre .2 .1) (start .pre .3 .1))
+    omega (arith, product-le {m = 4096} {n = 4096} (start .pre .chunks .1) (start .pre .chunkSize .1))
 
 add-if5-4 : tie.Need-add-if5-4
 add-if5-4 c =
     let start = c .before .before .before .before .before .before .before .before .before .before .before .before .before .before in
-    omega (arith, start .pre, product-le {m = 4096} {n = 4096} (start .pre .2 .1) (start .pre .3 .1))
+    omega (arith, start .pre, product-le {m = 4096} {n = 4096} (start .pre .chunks .1) (start .pre .chunkSize .1))
 
 returns-5 : tie.Need-returns-5
 returns-5 c = search needs
@@ -54,18 +54,16 @@ returns-6 c = search needs
 
 mul-if7 : tie.Need-mul-if7
 mul-if7 c =
-    let start =
-    c .before .before .before .before .before .before .before .before .before .before .before .before .before .before .before .before .before .before .before
-    in
-    let h : start .args .st .tierSize ≤ 16777216 = omega arith in omega (arith, product-le {m = 64} {n = 16777216} (start .pre .6 .1) h)
+    let p = c .before .before .before .before .before .before .before .before .before in
+    let start = p .before .before .before .before .before .before .before .before .before .before in
+    let h : start .args .st .tierSize ≤ 16777216 = omega arith in omega (arith, product-le {m = 64} {n = 16777216} (start .pre .bulkTiers .1) h)
 
 add-if7 : tie.Need-add-if7
 add-if7 c =
-    let start =
-    c .before .before .before .before .before .before .before .before .before .before .before .before .before .before .before .before .before .before .before .before
-    in
+    let p = c .before .before .before .before .before .before .before .before .before .before in
+    let start = p .before .before .before .before .before .before .before .before .before .before in
     let h : start .args .st .tierSize ≤ 16777216 = omega arith in
-    omega (arith, start .pre, product-le {m = 64} {n = 16777216} (start .pre .6 .1) h)
+    omega (arith, start .pre, product-le {m = 64} {n = 16777216} (start .pre .bulkTiers .1) h)
 
 returns-7 : tie.Need-returns-7
 returns-7 c = search needs

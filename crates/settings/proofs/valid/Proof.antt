@@ -52,7 +52,15 @@ sizes-fit-requires c κs =
     let s = decided-true (slot-size-fits .result) (slot-size-fits .ensures) (not-false _ (if2 .left)) in
     let k = decided-true (bits-fit .result) (bits-fit .ensures) (not-false _ (c .before .before .if3 .left)) in
     let r = decided-true (ranges-fit .result) (ranges-fit .ensures) (not-false _ (c .if4 .left)) in
-    (s, n .3, k .2, r .1, r .0, r .2, r .3)
+    record {
+      slotSize = s;
+      slots = n .3;
+      chunks = k .2;
+      chunkSize = r .1;
+      innerOffset = r .0;
+      bulkInner = r .2;
+      bulkTiers = r .3;
+    }
 
 returns-5 : tie.Need-returns-5
 returns-5 c =

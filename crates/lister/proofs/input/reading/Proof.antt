@@ -1,7 +1,7 @@
 use mathlib.Core.Path.{sym, _∙_}
-use lib.Seq.{length-take-le}
-use Rattle.lister.specs.Input.{blockEnd, fromParsed, reading}
-use Rattle.lister.proofs.Reading.{needed-short, reading-next}
+use Rattle.settings.specs.Versions.{headSize}
+use Rattle.lister.specs.Input.{reading}
+use Rattle.lister.proofs.Reading.{needed-short, version-unknown, version-known}
 use borrow.Author.Needs.{needs}
 use Rattle.lister.proofs.input.reading.Statement.{statement}
 use Rattle.lister.proofs.input.reading.Tie as tie
@@ -11,46 +11,36 @@ missing-requires c κs = search needs
 
 returns : tie.Need-returns
 unfolding reading
-returns c = c .missing .ensures ∙ sym (needed-short _ blockEnd _ _ _ (c .before .if1 .taken))
+returns c = c .missing .ensures ∙ sym (needed-short _ headSize _ _ _ (c .before .if1 .taken))
 
-slice-aggregate-parse : tie.Need-slice-aggregate-parse
-slice-aggregate-parse c =
-    let start = c .before .before .before in
-    sym (length-take-le 71 (start .args .read .now) (c .before .if1 .left))
+shared-slice-read-fields-of : tie.Need-shared-slice-read-fields-of
+shared-slice-read-fields-of c = search needs
 
-parse-requires : tie.Need-parse-requires
-parse-requires c κs = search needs
-
-enum-told : tie.Need-enum-told
-enum-told c = search needs
-
-enum-told-2 : tie.Need-enum-told-2
-enum-told-2 c = search needs
-
-enum-told-3 : tie.Need-enum-told-3
-enum-told-3 c = search needs
-
-reading-length-requires : tie.Need-reading-length-requires
-reading-length-requires c κs = search needs
+fields-of-requires : tie.Need-fields-of-requires
+fields-of-requires c κs = search needs
 
 returns-2 : tie.Need-returns-2
-unfolding fromParsed
 returns-2 c =
-    let parsed = c .before .before in
-    sym (reading-next _ _ (parsed .before .before .if1 .left) (sym (c .enum-told .given .1) ∙ parsed .parse .ensures))
+    let p = c .before in let fields-of = p .fields-of in
+    let p = p .before .before in let if1 = p .if1 in
+    version-unknown _ _ (if1 .left) (fields-of .ensures .0) (c .if2 .taken)
+
+block-size-requires : tie.Need-block-size-requires
+block-size-requires c κs = search needs
+
+add-reading-block : tie.Need-add-reading-block
+add-reading-block c = search needs
+
+reading-block-requires : tie.Need-reading-block-requires
+reading-block-requires c κs = search needs
 
 returns-3 : tie.Need-returns-3
-unfolding fromParsed
 returns-3 c =
-    let parsed = c .before .before in
-    sym (reading-next _ _ (parsed .before .before .if1 .left) (sym (c .enum-told2 .given .1) ∙ parsed .parse .ensures))
-
-returns-4 : tie.Need-returns-4
-unfolding fromParsed
-returns-4 c =
-    let told = c .before in
-    let parsed = told .before .before in
-    c .reading-length .ensures ∙ sym (reading-next _ _ (parsed .before .before .if1 .left) (sym (told .enum-told3 .given .1) ∙ parsed .parse .ensures))
+    let p = c .before in let block-size = p .block-size in
+    let p = p .before in let if2 = p .if2 in
+    let p = p .before in let fields-of = p .fields-of in
+    let p = p .before .before in let if1 = p .if1 in
+    c .reading-block .ensures ∙ version-known _ _ (if1 .left) (fields-of .ensures .0) (block-size .ensures) (if2 .left)
 
 pub reading-spec : {M : Type 1} → statement M
 reading-spec =
@@ -58,12 +48,10 @@ reading-spec =
     (tie.spec
     missing-requires
     returns
-    slice-aggregate-parse
-    parse-requires
-    enum-told
-    enum-told-2
-    enum-told-3
-    reading-length-requires
+    shared-slice-read-fields-of
+    fields-of-requires
     returns-2
-    returns-3
-    returns-4)
+    block-size-requires
+    add-reading-block
+    reading-block-requires
+    returns-3)

@@ -1,13 +1,16 @@
-use Rattle.search.proofs.Fitting.{fits-broken, sound, small, key-short, key-long, too-many, too-far, hash-wrong, entry-right, entry-says}
-use Rattle.entries.proofs.Whole.{whole-chunk, key-in-image}
-use Rattle.entries.specs.Keys.{slotRest}
+use Rattle.search.proofs.Fitting.{fits-broken, sound, too-far, hash-wrong, entry-right, entry-says, held, key-taken, held-inside, key-wrong, value-wrong}
+use Rattle.entries.proofs.Sizes.{size-broken, size-told}
+use Rattle.entries.proofs.Whole.{whole-chunk}
+use Rattle.entries.specs.Keys.{slotRest, KeyFits}
 use borrow.Author.Tests.{not-true, not-false}
 use Rattle.lists.proofs.Decides.{decided-true, decided-false}
-use mathlib.Core.Path.{sym, ap, _∙_}
+use mathlib.Core.Path.{sym, ap, _∙_, subst}
 use native.Mathlib.Omega.{arith}
 use borrow.Author.Needs.{needs}
 use Rattle.search.proofs.rules.entry_fits.Statement.{statement}
 use Rattle.search.proofs.rules.entry_fits.Tie as tie
+use Rattle.entries.proofs.key_fits.Reads as key-fits-reads
+use Rattle.entries.proofs.value_fits.Reads as value-fits-reads
 
 slot-requires : tie.Need-slot-requires
 slot-requires c κs = search needs
@@ -17,9 +20,10 @@ slot-rest-requires c κs = search needs
 
 returns : tie.Need-returns
 returns c =
-    let start = c .before .before .before .before .before in
-    λ f. c .if1 .taken
-    (c .before .slot-rest .ensures ∙ ap (slotRest (start .args .z .settings)) (c .before .before .slot .ensures) ∙ f .higherBits)
+    let p = c .before in let slot-rest = p .slot-rest in
+    let p = p .before in let slot = p .slot in
+    let start = p .before .before .before in
+    λ f. c .if1 .taken (slot-rest .ensures ∙ ap (slotRest (start .args .z .settings)) (slot .ensures) ∙ f .higherBits)
 
 slot-chunk-requires : tie.Need-slot-chunk-requires
 slot-chunk-requires c κs = search needs
@@ -35,133 +39,147 @@ enum-told c = search needs
 
 returns-2 : tie.Need-returns-2
 returns-2 c =
-    let p = c .before .before .before in let slot-chunk = p .slot-chunk in
+    let enum-told = c .enum-told in
+    let p = c .before .before in let stored = p .stored in
+    let p = p .before in let slot-chunk = p .slot-chunk in
+    let p = p .before .before .before in let slot = p .slot in
+    fits-broken (slot .ensures) (slot-chunk .ensures) (sym (stored .ensures) ∙ enum-told .given .1)
+
+add-to : tie.Need-add-to
+add-to c =
+    let p = c .before .before in let e = p .e in
+    let p = p .before .before in let stored = p .stored in
+    let p = p .before in let slot-chunk = p .slot-chunk in
     let p = p .before .before .before in let slot = p .slot in
     let start = p .before .before .before in
-    fits-broken (start .args .z) (start .args .img .now) (start .args .s) (start .args .t) (start .args .j) (slot .result)
-    (slot-chunk .result) (slot .ensures) (slot-chunk .ensures) (sym (c .before .before .stored .ensures) ∙ c .enum-told .given .1)
+    let h = held (slot .ensures) (slot-chunk .ensures) (stored .ensures) (e .given .1) in
+    omega (arith, held-inside h (start .pre .tier), start .pre .tier .framed .small)
+
+sub-key-fits : tie.Need-sub-key-fits
+sub-key-fits c = search needs
+
+part-key-fits-start : tie.Need-part-key-fits-start
+part-key-fits-start c = search needs
+
+part-key-fits-end : tie.Need-part-key-fits-end
+part-key-fits-end c =
+    let p = c .before .before in let e = p .e in
+    let p = p .before .before in let stored = p .stored in
+    let p = p .before in let slot-chunk = p .slot-chunk in
+    let p = p .before .before .before in let slot = p .slot in
+    let start = p .before .before .before in
+    held-inside (held (slot .ensures) (slot-chunk .ensures) (stored .ensures) (e .given .1)) (start .pre .tier)
+
+key-fits-requires : tie.Need-key-fits-requires
+key-fits-requires c κs = search needs
 
 returns-3 : tie.Need-returns-3
 returns-3 c =
-    let p = c .before .before .before in let e = p .e in
+    let if2 = c .if2 in
+    let p = c .before in let key-fits = p .key-fits in
+    let p = p .before .before .before .before in let e = p .e in
+    let p = p .before .before in let stored = p .stored in
+    let p = p .before in let slot-chunk = p .slot-chunk in
+    let p = p .before .before .before in let slot = p .slot in
+    let h = held (slot .ensures) (slot-chunk .ensures) (stored .ensures) (e .given .1) in
+    key-wrong h (key-taken h)
+    (decided-false (key-fits .result) (key-fits .ensures) (not-true _ (if2 .taken)))
+
+value-fits-requires : tie.Need-value-fits-requires
+value-fits-requires c κs =
+    let p = c .before .before .before .before .before in let e = p .e in
     let p = p .before .before in let stored = p .stored in
     let p = p .before in let slot-chunk = p .slot-chunk in
     let p = p .before .before .before in let slot = p .slot in
     let start = p .before .before .before in
-    key-short (start .args .z) (start .args .img .now) (start .args .s) (start .args .t) (start .args .j) (slot .result)
-    (slot-chunk .result) (slot .ensures) (slot-chunk .ensures) (e .given .0 .0) (sym (stored .ensures) ∙ e .given .1) (c .if2 .taken)
+    (start .pre .tier .framed .valid, sound (held (slot .ensures) (slot-chunk .ensures) (stored .ensures) (e .given .1)) .keySmall)
+
+enum-known-n : tie.Need-enum-known-n
+enum-known-n c = search needs
+
+enum-told-2 : tie.Need-enum-told-2
+enum-told-2 c = search needs
 
 returns-4 : tie.Need-returns-4
 returns-4 c =
-    let p = c .before .before .before .before .before in let e = p .e in
+    let enum-told2 = c .enum-told2 in
+    let p = c .before .before in let value-fits = p .value-fits in
+    let p = p .before .before .before .before .before .before in let e = p .e in
     let p = p .before .before in let stored = p .stored in
     let p = p .before in let slot-chunk = p .slot-chunk in
     let p = p .before .before .before in let slot = p .slot in
-    let start = p .before .before .before in
-    key-long (start .args .z) (start .args .img .now) (start .args .s) (start .args .t) (start .args .j) (slot .result) (slot-chunk .result)
-    (slot .ensures) (slot-chunk .ensures) (e .given .0 .0) (sym (stored .ensures) ∙ e .given .1) (c .if3 .taken)
+    value-wrong (held (slot .ensures) (slot-chunk .ensures) (stored .ensures) (e .given .1)) (size-broken (value-fits .ensures) (enum-told2 .given .1))
 
-chunks-for-requires : tie.Need-chunks-for-requires
-chunks-for-requires c κs =
-    let p = c .before .before .before .before .before in let e = p .e in
+add-if3 : tie.Need-add-if3
+add-if3 c =
+    let p = c .before in let n = p .n in
+    let p = p .before .before in let value-fits = p .value-fits in
+    let p = p .before .before .before .before .before .before in let e = p .e in
     let p = p .before .before in let stored = p .stored in
     let p = p .before in let slot-chunk = p .slot-chunk in
     let p = p .before .before .before in let slot = p .slot in
     let start = p .before .before .before in
-    record {
-      valid = start .pre .tier .framed .valid;
-      lengths = small (start .args .z) (start .args .img .now) (start .args .s) (start .args .t) (start .args .j) (slot .result)
-          (slot-chunk .result) (slot .ensures) (slot-chunk .ensures) (e .given .0 .0) (sym (stored .ensures) ∙ e .given .1);
-    }
+    let h = held (slot .ensures) (slot-chunk .ensures) (stored .ensures) (e .given .1) in
+    let valid = start .pre .tier .framed .valid in
+    let size = size-told (value-fits .ensures) (n .given .1) in
+    omega (arith, whole-chunk _ _ _ _ (sound h), size .0 .notTooMany, size .1, valid .chunks, valid .mostChunks)
 
 returns-5 : tie.Need-returns-5
 returns-5 c =
-    let p = c .before .before in let chunks-for = p .chunks-for in
+    let if3 = c .if3 in
+    let p = c .before .before .before in let n = p .n in
+    let p = p .before .before in let value-fits = p .value-fits in
     let p = p .before .before .before .before .before .before in let e = p .e in
     let p = p .before .before in let stored = p .stored in
     let p = p .before in let slot-chunk = p .slot-chunk in
     let p = p .before .before .before in let slot = p .slot in
-    let start = p .before .before .before in
-    too-many (start .args .z) (start .args .img .now) (start .args .s) (start .args .t) (start .args .j) (slot .result) (slot-chunk .result)
-    (slot .ensures) (slot-chunk .ensures) (e .given .0 .0) (sym (stored .ensures) ∙ e .given .1) (chunks-for .result) (chunks-for .ensures)
-    (c .if4 .taken)
-
-add-if5 : tie.Need-add-if5
-add-if5 c =
-    let p = c .before .before .before .before .before .before .before .before in let e = p .e in
-    let p = p .before .before in let stored = p .stored in
-    let p = p .before in let slot-chunk = p .slot-chunk in
-    let p = p .before .before .before in let slot = p .slot in
-    let start = p .before .before .before in
-    omega (
-      arith,
-      whole-chunk (start .args .z) (start .args .img .now) (start .args .t) (slot-chunk .result)
-          (sound (start .args .z) (start .args .img .now) (start .args .s) (start .args .t) (start .args .j) (slot .result)
-          (slot-chunk .result) (slot .ensures) (slot-chunk .ensures) (e .given .0 .0) (sym (stored .ensures) ∙ e .given .1)),
-      c .if4 .left,
-      start .pre .tier .framed .valid .chunks,
-      start .pre .tier .framed .valid .mostChunks,
-    )
-
-returns-6 : tie.Need-returns-6
-returns-6 c =
-    let p = c .before .before .before .before in let chunks-for = p .chunks-for in
-    let p = p .before .before .before .before .before .before in let e = p .e in
-    let p = p .before .before in let stored = p .stored in
-    let p = p .before in let slot-chunk = p .slot-chunk in
-    let p = p .before .before .before in let slot = p .slot in
-    let start = p .before .before .before in
-    too-far (start .args .z) (start .args .img .now) (start .args .s) (start .args .t) (start .args .j) (slot .result) (slot-chunk .result)
-    (slot .ensures) (slot-chunk .ensures) (e .given .0 .0) (sym (stored .ensures) ∙ e .given .1) (chunks-for .result) (chunks-for .ensures)
-    (c .if5 .taken)
+    too-far (held (slot .ensures) (slot-chunk .ensures) (stored .ensures) (e .given .1)) (size-told (value-fits .ensures) (n .given .1) .1) (if3 .taken)
 
 hash-agrees-requires : tie.Need-hash-agrees-requires
 hash-agrees-requires c κs =
-    let p = c .before .before .before .before .before .before .before .before .before .before in let e = p .e in
+    let p = c .before .before .before .before .before .before .before .before .before .before .before in let e = p .e in
     let p = p .before .before in let stored = p .stored in
     let p = p .before in let slot-chunk = p .slot-chunk in
     let p = p .before .before .before in let slot = p .slot in
     let start = p .before .before .before in
     record {
       framed = start .pre .tier .framed;
-      keyInside = key-in-image (start .args .z) (start .args .img .now) (start .args .t) (slot-chunk .result)
-          (sound (start .args .z) (start .args .img .now) (start .args .s) (start .args .t) (start .args .j) (slot .result) (slot-chunk .result)
-          (slot .ensures) (slot-chunk .ensures) (e .given .0 .0) (sym (stored .ensures) ∙ e .given .1))
-          (start .pre .tier .framed) (start .pre .tier .tierIn);
+      keyInside = held-inside (held (slot .ensures) (slot-chunk .ensures) (stored .ensures) (e .given .1)) (start .pre .tier);
     }
 
-returns-7 : tie.Need-returns-7
-returns-7 c =
+returns-6 : tie.Need-returns-6
+returns-6 c =
+    let if4 = c .if4 in
     let p = c .before in let hash-agrees = p .hash-agrees in
-    let p = p .before .before .before .before .before .before .before .before .before .before .before in let e = p .e in
+    let p = p .before .before .before .before .before .before .before .before .before .before .before .before in let e = p .e in
     let p = p .before .before in let stored = p .stored in
     let p = p .before in let slot-chunk = p .slot-chunk in
     let p = p .before .before .before in let slot = p .slot in
-    let start = p .before .before .before in
-    hash-wrong (start .args .z) (start .args .img .now) (start .args .s) (start .args .t) (start .args .j) (slot .result)
-    (slot-chunk .result) (slot .ensures) (slot-chunk .ensures) (e .given .0 .0) (sym (stored .ensures) ∙ e .given .1)
-    (decided-false (hash-agrees .result) (hash-agrees .ensures) (not-true _ (c .if6 .taken)))
+    hash-wrong (held (slot .ensures) (slot-chunk .ensures) (stored .ensures) (e .given .1))
+    (decided-false (hash-agrees .result) (hash-agrees .ensures) (not-true _ (if4 .taken)))
 
-returns-8 : tie.Need-returns-8
-returns-8 c =
+returns-7 : tie.Need-returns-7
+returns-7 c =
+    let if4 = c .if4 in
     let p = c .before in let hash-agrees = p .hash-agrees in
-    let p = p .before .before .before in let if4 = p .if4 in
-    let p = p .before .before in let chunks-for = p .chunks-for in
     let p = p .before in let if3 = p .if3 in
-    let p = p .before .before in let if2 = p .if2 in
-    let p = p .before .before .before in let e = p .e in
+    let p = p .before .before .before in let n = p .n in
+    let p = p .before .before in let value-fits = p .value-fits in
+    let p = p .before in let if2 = p .if2 in
+    let p = p .before in let key-fits = p .key-fits in
+    let p = p .before .before .before .before in let e = p .e in
     let p = p .before .before in let stored = p .stored in
     let p = p .before in let slot-chunk = p .slot-chunk in
     let p = p .before in let if1 = p .if1 in
     let p = p .before in let slot-rest = p .slot-rest in
     let p = p .before in let slot = p .slot in
     let start = p .before .before .before in
-    entry-says (start .args .z) (start .args .img .now) (start .args .s) (start .args .t) (start .args .j) (slot .result)
-    (slot-chunk .result) (slot .ensures) (slot-chunk .ensures) (e .given .0 .0) (sym (stored .ensures) ∙ e .given .1) (chunks-for .result)
-    (chunks-for .ensures) (entry-right (start .args .z) (start .args .img .now) (start .args .s) (start .args .t) (start .args .j) (slot .result)
-    (slot-chunk .result) (slot .ensures) (slot-chunk .ensures) (e .given .0 .0) (sym (stored .ensures) ∙ e .given .1)
-    (sym (slot-rest .ensures) ∙ if1 .left) (omega (arith, if2 .left)) (omega (arith, if3 .left)) (chunks-for .result) (chunks-for .ensures)
-    (if4 .left) (c .before .before .if5 .left) (decided-true (hash-agrees .result) (hash-agrees .ensures) (not-false _ (c .if6 .left))))
+    let h = held (slot .ensures) (slot-chunk .ensures) (stored .ensures) (e .given .1) in
+    let size = size-told (value-fits .ensures) (n .given .1) in
+    let key = decided-true (key-fits .result) (key-fits .ensures) (not-false _ (if2 .left)) in
+    let hash = decided-true (hash-agrees .result) (hash-agrees .ensures) (not-false _ (if4 .left)) in
+    entry-says h (size .1)
+    (entry-right h (sym (slot-rest .ensures) ∙ if1 .left) (subst (KeyFits (start .args .z .settings)) (key-taken h) key) (size .0) (size .1) (if3 .left) hash)
 
 pub entry-fits-spec : {M : Type 1} → statement M
 entry-fits-spec =
@@ -175,12 +193,18 @@ entry-fits-spec =
     enum-known-e
     enum-told
     returns-2
+    add-to
+    sub-key-fits
+    part-key-fits-start
+    part-key-fits-end
+    key-fits-requires
     returns-3
+    value-fits-requires
+    enum-known-n
+    enum-told-2
     returns-4
-    chunks-for-requires
+    add-if3
     returns-5
-    add-if5
-    returns-6
     hash-agrees-requires
-    returns-7
-    returns-8)
+    returns-6
+    returns-7)
