@@ -44,7 +44,8 @@ module _ (z : Shape) (img : List ℕ) where
   upTo-length (suc s) h =
       let more : flatMap (chain z img) (below (suc s)) ≡ flatMap (chain z img) (below s) ++ chain z img s =
       ap (λ (n : ℕ). flatMap (chain z img) (below n)) (sym (add-one s)) ∙ flatMap-below (chain z img) s in
-      let more′ : extrasBefore z img (suc s) ≡ extrasBefore z img s ++ extrasOf z img s = ap (extrasBefore z img) (sym (add-one s)) ∙ before-more z img s in
+      let more′ : extrasBefore z img (suc s) ≡ extrasBefore z img s ++ extrasOf z img s =
+      ap (extrasBefore z img) (sym (add-one s)) ∙ before-more z img s in
       omega (
         arith,
         ap length more,

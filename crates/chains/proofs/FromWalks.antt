@@ -34,7 +34,8 @@ counting-starts fr = record { framed = fr; long = length-replicate {A = ℕ} cou
 
 -- ---- the walk along the segments' chains
 
-module _ {z : Shape} {img times₁ : List ℕ} {r₁ : Walked} (fr : Framed z (length img)) (a : AllWalk z img (z .settings .segments) noTimes times₁ r₁) where
+module _ {z : Shape} {img times₁ : List ℕ} {r₁ : Walked} (fr : Framed z (length img))
+    (a : AllWalk z img (z .settings .segments) noTimes times₁ r₁) where
   open Shape z using (settings, bulks)
   open Settings settings using (segments, bulkTiers)
 

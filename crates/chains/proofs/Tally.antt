@@ -49,5 +49,7 @@ pub zeros-met : (n : ℕ) → MetAtMost (replicate n 0) 0
 zeros-met n u =
     ⊎-elim
     (λ (h : u < n). rw (getD-replicate {A = ℕ} n u 0 0 h) (omega arith))
-    (λ (h : n ≤ u). let l : length (replicate {A = ℕ} n 0) ≤ u = rw length-replicate h in rw (List·getD-eq-default (replicate {A = ℕ} n 0) 0 l) (omega arith))
+    (λ (h : n ≤ u).
+    let l : length (replicate {A = ℕ} n 0) ≤ u = rw length-replicate h in
+    rw (List·getD-eq-default (replicate {A = ℕ} n 0) 0 l) (omega arith))
     (lt-or u n)

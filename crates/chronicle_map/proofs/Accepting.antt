@@ -58,7 +58,8 @@ module _ (block img : List ℕ) where
       cc
 
   -- accepted by the check, so ready
-  pub accepted-ready : (x : Examined) (c : Counts) → verdictOf x ≡ record { outcome = outcome.Accepted c } → (z : Shape) × (d : Counts) × (x ≡ Ready z d)
+  pub accepted-ready : (x : Examined) (c : Counts) → verdictOf x ≡ record { outcome = outcome.Accepted c }
+      → (z : Shape) × (d : Counts) × (x ≡ Ready z d)
   unfolding verdictOf
   accepted-ready (Ready z d) c e = (z, d, refl)
   accepted-ready (Refused s) c e =

@@ -61,7 +61,8 @@ accepted-fits block img (c, e) =
 -- ---- maps
 
 -- a map that weighs the same finds the same
-same-get : (z : Shape) (img : List ℕ) → SoundImage z img → (m : Map) → Weigh (pairsOf z img) m → (key : List ℕ) → mapGet (pairsOf z img) key ≡ mapGet m key
+same-get : (z : Shape) (img : List ℕ) → SoundImage z img → (m : Map) → Weigh (pairsOf z img) m → (key : List ℕ)
+    → mapGet (pairsOf z img) key ≡ mapGet m key
 same-get z img sound m w key = by-find (find z img key) refl
   where
     by-find : (o : Option Live) → find z img key ≡ o → mapGet (pairsOf z img) key ≡ mapGet m key
@@ -161,7 +162,8 @@ module _ (block img : List ℕ) (b : Bytes img) (a : Accepted block img) where
 
       not-there : KeyFits (settingsOf block) key → mapGet (mapOf block img) key ≡ none → lookup block img key ≡ looked.Absent
       not-there k g =
-          lookup-is key (subst (λ (st : Settings). KeyFits st key) (sym (shape-settings (settingsOf block) img)) k) ∙ ap fromFind (by-find (find z img key) refl)
+          lookup-is key (subst (λ (st : Settings). KeyFits st key) (sym (shape-settings (settingsOf block) img)) k)
+          ∙ ap fromFind (by-find (find z img key) refl)
         where
           by-find : (o : Option Live) → find z img key ≡ o → o ≡ none
           by-find none f = refl

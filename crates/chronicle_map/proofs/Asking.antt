@@ -100,7 +100,8 @@ module _ (block img key value : List ℕ) where
   entry-by (Refused r) s f = f
   entry-by (Ready z c) s f = refused-key (givenKeyFits? (z .settings) (aKey key)) f
     where
-      refused-key : (d : Dec (GivenKeyFits (z .settings) (aKey key))) → afterKey z c (aKey key) d ≡ Refused s → afterKey z c (anEntry key value) d ≡ Refused s
+      refused-key : (d : Dec (GivenKeyFits (z .settings) (aKey key))) → afterKey z c (aKey key) d ≡ Refused s
+          → afterKey z c (anEntry key value) d ≡ Refused s
       refused-key (no n) g = g
       refused-key (yes k) g = never (sym g)
 
@@ -132,7 +133,8 @@ module _ (block img key value : List ℕ) where
 
   ready-entry : (z : Shape) (c : Counts) (w : Shape) (d : Counts) (k : Dec (GivenKeyFits (w .settings) (anEntry key value)))
       (v : Dec (GivenValueFits (w .settings) (anEntry key value)))
-      → givenValueFits? (w .settings) (anEntry key value) ≡ v → examine block img ≡ Ready w d → afterKey w d (anEntry key value) k ≡ Ready z c → EntryReady z c
+      → givenValueFits? (w .settings) (anEntry key value) ≡ v → examine block img ≡ Ready w d
+      → afterKey w d (anEntry key value) k ≡ Ready z c → EntryReady z c
   unfolding choose afterKey afterValue
   ready-entry z c w d (no n) v q e f = never f
   ready-entry z c w d (yes k) v q e f = last v (ap (afterValue w d (anEntry key value)) (sym q) ∙ f)

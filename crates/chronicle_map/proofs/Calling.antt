@@ -91,7 +91,8 @@ module _ (block : List ℕ) (img : RefT (List ℕ)) (key : List ℕ) (r : Locate
       subst (λ (x : Located). RecordOf img x (slPart img (recordAt l + img .ptr .1) (recordAt l) (recordAt l + recordLength l) γ)) (sym e ∙ er)
       (part-of img (recordAt l) (recordLength l) γ)
 
-  pub record-found : (at n : ℕ) → r ≡ located.Found at n → (γ : ℕ) → RecordOf img (lookup block (now img) key) (slPart img (at + img .ptr .1) at (at + n) γ)
+  pub record-found : (at n : ℕ) → r ≡ located.Found at n → (γ : ℕ)
+      → RecordOf img (lookup block (now img) key) (slPart img (at + img .ptr .1) at (at + n) γ)
   unfolding recordAt recordLength
   record-found at n e γ = record-is (located.Found at n) e γ
 
@@ -99,7 +100,8 @@ module _ (block : List ℕ) (img : RefT (List ℕ)) (key : List ℕ) (r : Locate
   unfolding recordAt recordLength
   record-absent e γ = record-is located.Absent e γ
 
-  pub record-refused : (s : Stage) → r ≡ located.Refused s → (γ : ℕ) → RecordOf img (lookup block (now img) key) (slPart img (0 + img .ptr .1) 0 0 γ)
+  pub record-refused : (s : Stage) → r ≡ located.Refused s → (γ : ℕ)
+      → RecordOf img (lookup block (now img) key) (slPart img (0 + img .ptr .1) 0 0 γ)
   unfolding recordAt recordLength
   record-refused s e γ = record-is (located.Refused s) e γ
 

@@ -78,7 +78,9 @@ module _ (block img : List ℕ) (b : Bytes img) (a : Accepted block img) where
     where
       by-find : (o : Option Live) → find z img key ≡ o → Looked block img key p
       by-find none f =
-          absurd (let q : some p ≡ none = sym g ∙ map-none z img (h .sound) (pairsOf z img) (λ F. refl) key f in let n : _≡_ {A = ℕ} 0 1 = cc in omega arith)
+          absurd (let q : some p ≡ none = sym g ∙ map-none z img (h .sound) (pairsOf z img) (λ F. refl) key f in
+          let n : _≡_ {A = ℕ} 0 1 = cc in
+          omega arith)
       by-find (some e) f =
           let r : List·Memᴰ e (live z img) × (keyOf img (e .entry) ≡ key) = find-live z img key e f in
           let q : some (pairOf img e) ≡ some p = sym (map-found z img (h .sound) (pairsOf z img) (λ F. refl) key e f) ∙ g in

@@ -60,7 +60,8 @@ module _ (block img : List ℕ) (h : Holds block img) (m : Map) (w : Weigh (mapO
   found-map key none = refl
   found-map key (some p) = refl
 
-  lookup-map : (key : List ℕ) (d : Dec (GivenKeyFits (z .settings) (aKey key))) → unlessKey (z .settings) (aKey key) m (mapLookup m (mapGet m key)) d .map ≡ m
+  lookup-map : (key : List ℕ) (d : Dec (GivenKeyFits (z .settings) (aKey key)))
+      → unlessKey (z .settings) (aKey key) m (mapLookup m (mapGet m key)) d .map ≡ m
   unfolding choose unlessKey unlessValue givenValueFits?
   lookup-map key (no n) = refl
   lookup-map key (yes k) = found-map key (mapGet m key)
@@ -72,7 +73,8 @@ module _ (block img : List ℕ) (h : Holds block img) (m : Map) (w : Weigh (mapO
     pub holds : Holds block (x .image)
     pub weighs : Weigh (mapOf block (x .image)) (r .map)
 
-  removed : (key : List ℕ) (o : Option Live) (q : Option Pair) → find z img key ≡ o → mapGet m key ≡ q → Agrees (removeFound z img key o) (mapRemove m key q)
+  removed : (key : List ℕ) (o : Option Live) (q : Option Pair) → find z img key ≡ o → mapGet m key ≡ q
+      → Agrees (removeFound z img key o) (mapRemove m key q)
   unfolding removeFound mapRemove mapDrop hasKey
   removed key none none f g = record { said = refl; holds = h; weighs = w }
   removed key none (some p) f g =

@@ -49,7 +49,8 @@ pub record Demand1 (block img : List ℕ) : Type 0 where
   pub listAnswers : (n : ℕ) → Answers (0 ∷ 1 ∷ 2 ∷ 3 ∷ 4 ∷ 5 ∷ 6 ∷ 7 ∷ []) (listedNumbers (entry block img n))
   pub lookupAnswers : (key : List ℕ) → Answers (0 ∷ 1 ∷ 2 ∷ 3 ∷ 4 ∷ 5 ∷ 6 ∷ 7 ∷ 8 ∷ []) (lookupNumbers (lookup block img key))
   pub removalAnswers : (key : List ℕ) → Answers (0 ∷ 1 ∷ 2 ∷ 3 ∷ 4 ∷ 5 ∷ 6 ∷ 7 ∷ 8 ∷ []) (answerNumber (remove block img key .answer) ∷ [])
-  pub storeAnswers : (key value : List ℕ) → Answers (0 ∷ 2 ∷ 3 ∷ 4 ∷ 5 ∷ 6 ∷ 7 ∷ 8 ∷ 9 ∷ 10 ∷ []) (answerNumber (store block img key value .answer) ∷ [])
+  pub storeAnswers : (key value : List ℕ)
+      → Answers (0 ∷ 2 ∷ 3 ∷ 4 ∷ 5 ∷ 6 ∷ 7 ∷ 8 ∷ 9 ∷ 10 ∷ []) (answerNumber (store block img key value .answer) ∷ [])
   -- without a record, the part that `record` answers is the empty one at offset 0
   pub noRecord : (key : List ℕ) → numberOf (lookupNumbers (lookup block img key)) ≢ 0
       → (recordAt (lookup block img key) ≡ 0) × (recordLength (lookup block img key) ≡ 0)
@@ -128,7 +129,8 @@ pub record Kept (block img : List ℕ) (calls : List Call) (after : List ℕ) (m
       → ((mark (shape block after) after t i ≡ 1) × (howMany (live (shape block after) after) (coversIn t i) ≡ 1))
       ⊎ ((mark (shape block after) after t i ≡ 0) × (howMany (live (shape block after) after) (coversIn t i) ≡ 0))
   -- every extra tier stands once, in one segment's chain or in the free chain
-  pub tiersOnce : (t : ℕ) → IsExtra (shape block after) t → howMany (chainedExtra (shape block after) after ++ freeChain (shape block after) after) (eqb t) ≡ 1
+  pub tiersOnce : (t : ℕ) → IsExtra (shape block after) t
+      → howMany (chainedExtra (shape block after) after ++ freeChain (shape block after) after) (eqb t) ≡ 1
   -- the marked chunks that the check counts are the chunks that the map's keys and records require
   pub markedChunks : (c : Counts) → check block after ≡ record { outcome = outcome.Accepted c }
       → c .chunks ≡ total map (λ p. chunksFor (settingsOf block) (length (p .key)) (length (p .value)))

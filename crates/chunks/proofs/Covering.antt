@@ -98,6 +98,7 @@ module _ (z : Shape) (img : List ℕ) (s t : ℕ) where
       (j : ℕ) → j < slots → slotAt z img t j ≢ 0
       → chunkOf z img t j + chunksFor settings (entryAt z img t j .keyLength) (entryAt z img t j .valueLength) ≤ chunks
 
-  pub range-ends : RangesIn → (j : ℕ) → j < slots → slotAt z img t j ≢ 0 → (e : Live) → e ≡ liveAt z img s t j → e .chunk + e .chunks ≤ chunks
+  pub range-ends : RangesIn → (j : ℕ) → j < slots → slotAt z img t j ≢ 0 → (e : Live) → e ≡ liveAt z img s t j
+      → e .chunk + e .chunks ≤ chunks
   unfolding liveAt
   range-ends f j h ne e q = subst (λ (x : Live). x .chunk + x .chunks ≤ chunks) (sym q) (f j h ne)

@@ -120,5 +120,6 @@ module _ (z : Shape) (img : List ℕ) (t i v : ℕ) (b : IsByte z img t i v) whe
   pub byte-same : (l : List ℕ) → Below 8 (λ k. getD l (i + k) 0 ≡ bitOf v k) → Below 8 (λ k. getD l (i + k) 0 ≡ mark z img t (i + k))
   byte-same l f k h = f k h ∙ sym (b k h)
 
-  pub byte-other : (l : List ℕ) (n : ℕ) → i + 8 ≤ n → (Below 8 (λ k. getD l (i + k) 0 ≡ bitOf v k) → ⊥) → Below n (λ k. getD l k 0 ≡ mark z img t k) → ⊥
+  pub byte-other : (l : List ℕ) (n : ℕ) → i + 8 ≤ n → (Below 8 (λ k. getD l (i + k) 0 ≡ bitOf v k) → ⊥)
+      → Below n (λ k. getD l k 0 ≡ mark z img t k) → ⊥
   byte-other l n h ne f = ne (λ k o. f (i + k) (omega arith) ∙ b k o)

@@ -66,4 +66,7 @@ module _ (z : Shape) (img : List ℕ) (t : ℕ) where
   unfolding fullBelow fullSlots
   gathering-ends {before} {now} {n} {j} w room h =
       let e : j ≡ slots = omega (arith, w .low) in
-      record { are = w .gathered ∙ ap (λ (k : ℕ). those (below k) (λ i. not (eqb (slotAt z img t i) 0))) e; within = omega (arith, w .few, w .low, w .long) }
+      record {
+        are = w .gathered ∙ ap (λ (k : ℕ). those (below k) (λ i. not (eqb (slotAt z img t i) 0))) e;
+        within = omega (arith, w .few, w .low, w .long);
+      }

@@ -51,7 +51,9 @@ module _ (z : Shape) (img : List ℕ) where
   more-live : (s : ℕ) (ts : List ℕ) (t : ℕ) → liveOver s (ts ++ (t ∷ [])) ≡ liveOver s ts + length (fullSlots z img t)
   unfolding liveOver flatMap
   more-live s ts t =
-      ap length (flatMap-append (liveIn z img s) ts (t ∷ []) ∙ ap (λ (r : List Live). flatMap (liveIn z img s) ts ++ r) (append-nil (liveIn z img s t))) ∙
+      ap length
+      (flatMap-append (liveIn z img s) ts (t ∷ []) ∙ ap (λ (r : List Live). flatMap (liveIn z img s) ts ++ r) (append-nil (liveIn z img s t)))
+      ∙
       (length-append (flatMap (liveIn z img s) ts) (liveIn z img s t) ∙ ap (λ (n : ℕ). length (flatMap (liveIn z img s) ts) + n) (length-liveIn z img s t))
 
   more-marked : (ts : List ℕ) (t : ℕ) → markedOver (ts ++ (t ∷ [])) ≡ markedOver ts + markedIn z img t

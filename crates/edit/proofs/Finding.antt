@@ -38,7 +38,8 @@ module _ (z : Shape) (img key : List ℕ) where
   pub find-live : (e : Live) → find z img key ≡ some e → List·Memᴰ e (live z img) × (keyOf img (e .entry) ≡ key)
   unfolding find
   find-live e f =
-      let r : List·Memᴰ e (live z img) × (same (keyOf img (e .entry)) key ≡ true) = first-in (λ (x : Live). same (keyOf img (x .entry)) key) e (live z img) f in
+      let r : List·Memᴰ e (live z img) × (same (keyOf img (e .entry)) key ≡ true) =
+      first-in (λ (x : Live). same (keyOf img (x .entry)) key) e (live z img) f in
       (r .0, same-true _ key (r .1))
 
   pub find-none : find z img key ≡ none → Every (live z img) (λ e. keyOf img (e .entry) ≢ key)

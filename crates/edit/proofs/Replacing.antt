@@ -184,7 +184,8 @@ module _ (z : Shape) (img : List ℕ) (sound : SoundImage z img) where
             let l : IsLive z img (liveAt z img (segmentOf settings key) t j) = found-live (liveAt z img (segmentOf settings key) t j) found in
             (live-tier (liveAt z img (segmentOf settings key) t j) l, l .slotIn)
 
-        pub old-found : {c n : ℕ} {x : Entry} → x ≡ entryAt z img t j → c ≡ chunkOf z img t j → n ≡ chunksFor settings (x .keyLength) (x .valueLength)
+        pub old-found : {c n : ℕ} {x : Entry} → x ≡ entryAt z img t j → c ≡ chunkOf z img t j
+            → n ≡ chunksFor settings (x .keyLength) (x .valueLength)
             → record { tier = t; slot = j; chunk = c; chunks = n } ≡ oldOf (find z img key)
         unfolding oldOf liveAt
         old-found ex ec en =

@@ -57,13 +57,17 @@ module _ (z : Shape) (img : List ℕ) (sound : SoundImage z img) where
     unfolding oldOf
     clear-own q i h =
         ⊎-elim
-        (λ (a : i < e .chunk). sym (clear-before z img (oldOf (some e)) t i a) ∙ marked-same i (rw q (removal-mark-out z img (sound-but z img sound) e m i h (inl a))))
+        (λ (a : i < e .chunk).
+        sym (clear-before z img (oldOf (some e)) t i a)
+        ∙ marked-same i (rw q (removal-mark-out z img (sound-but z img sound) e m i h (inl a))))
         (λ (a : e .chunk ≤ i).
         ⊎-elim
         (λ (b : i < e .chunk + e .chunks).
         sym (clear-old z img (oldOf (some e)) t i q a b)
         ∙ sym (eq-eqb (mark z (removeEntry z img e) t i) 0 (rw q (removal-mark-in z img (sound-but z img sound) e m i a b))))
-        (λ (b : e .chunk + e .chunks ≤ i). sym (clear-after z img (oldOf (some e)) t i b) ∙ marked-same i (rw q (removal-mark-out z img (sound-but z img sound) e m i h (inr b))))
+        (λ (b : e .chunk + e .chunks ≤ i).
+        sym (clear-after z img (oldOf (some e)) t i b)
+        ∙ marked-same i (rw q (removal-mark-out z img (sound-but z img sound) e m i h (inr b))))
         (lt-or i (e .chunk + e .chunks)))
         (lt-or i (e .chunk))
 
@@ -72,7 +76,8 @@ module _ (z : Shape) (img : List ℕ) (sound : SoundImage z img) where
     clear-there i h =
         ⊎-elim
         (λ (q : t ≡ e .tier). clear-own q i h)
-        (λ (q : t ≢ e .tier). sym (clear-else z img (oldOf (some e)) t i q) ∙ marked-same i (removal-mark-other z img (sound-but z img sound) e m t i is q h))
+        (λ (q : t ≢ e .tier).
+        sym (clear-else z img (oldOf (some e)) t i q) ∙ marked-same i (removal-mark-other z img (sound-but z img sound) e m t i is q h))
         (same-or t (e .tier))
 
   -- ---- the whole chain

@@ -36,10 +36,13 @@ use Rattle.edit.proofs.Scanning.{scan-is}
 use Rattle.edit.proofs.Storing.{fits-at, fits-free}
 
 -- an entry takes a chunk at least
-pub some-chunks : {z : Shape} {img key value : List ℕ} → Storable z img key value → (n : ℕ) → n ≡ chunksFor (z .settings) (length key) (length value)
+pub some-chunks : {z : Shape} {img key value : List ℕ} → Storable z img key value → (n : ℕ)
+    → n ≡ chunksFor (z .settings) (length key) (length value)
     → 0 < n
 some-chunks {z} {img} {key} {value} w n e =
-    rw e (chunks-pos (z .settings) (length key) (length value) (omega (arith, w .keyFits .notLonger)) (omega (arith, w .valueFits .notLonger)) (w .sound .fits .valid))
+    rw e
+    (chunks-pos (z .settings) (length key) (length value) (omega (arith, w .keyFits .notLonger)) (omega (arith, w .valueFits .notLonger))
+    (w .sound .fits .valid))
 
 -- a sound image with a free tier uses fewer than 1,024
 used-few : {C : Type 0} (z : Shape) (img : List ℕ) → SoundWith C z img → (s : ℕ) → s < z .settings .segments → freeHead z img ≢ 0
@@ -154,7 +157,8 @@ module _ {z : Shape} {img key value : List ℕ} {old : Old} {s n : ℕ} {r : Run
     free-stored ey = (
       rw (← run-is, f) (ne-eqb (freeHead z img₁) 0 some-free),
       ey
-          ∙ ap₂ (λ (x : List ℕ) (u : ℕ). settle z (placeAt z (join z x s) head 0 key value) (touched head u)) old-is (old-tier z img sound key old (w .oldIs))
+          ∙ ap₂ (λ (x : List ℕ) (u : ℕ). settle z (placeAt z (join z x s) head 0 key value) (touched head u)) old-is
+          (old-tier z img sound key old (w .oldIs))
           ∙ ap₂ (λ (q t : ℕ). settle z (placeAt z (join z img₁ q) t 0 key value) (touched t (tierOf (find z img key)))) (w .segmentIs) head-is
           ∙ rw (← run-is, f),
     )

@@ -43,7 +43,8 @@ use Rattle.edit.proofs.Replacing.{found-tier}
 -- ---- the tiers that a store changes
 
 module _ (t : ℕ) where
-  touched-more : (o : Option Live) → ((e : Live) → o ≡ some e → e .tier ≢ 0) → (u : ℕ) → List·Memᴰ u (t ∷ left o) → List·Memᴰ u (touched t (tierOf o))
+  touched-more : (o : Option Live) → ((e : Live) → o ≡ some e → e .tier ≢ 0) → (u : ℕ) → List·Memᴰ u (t ∷ left o)
+      → List·Memᴰ u (touched t (tierOf o))
   unfolding touched
   touched-more none ne u m = m
   touched-more (some e) ne u m =
@@ -92,7 +93,8 @@ module _ (z : Shape) (img : List ℕ) (key value : List ℕ) (w : Storable z img
   pub fits-at : (t c : ℕ) → runOf z img₁ key value ≡ At t c → Places z img₁ gone s t c key value
   unfolding runOf runFor
   fits-at t c e =
-      let r : List·Memᴰ t (chain z img₁ s) × (fullIn z img₁ t + 2 ≤ slots) × (c + n ≤ chunks) × ((i : ℕ) → c ≤ i → i < c + n → clear z img₁ t i ≡ true) =
+      let r : List·Memᴰ t (chain z img₁ s) × (fullIn z img₁ t + 2 ≤ slots) × (c + n ≤ chunks)
+      × ((i : ℕ) → c ≤ i → i < c + n → clear z img₁ t i ≡ true) =
       run-found z (fullIn z img₁) (clear z img₁) (chain z img₁ s) n t c e in
       record {
         segmentIn = hs;
@@ -164,7 +166,9 @@ module _ (z : Shape) (img : List ℕ) (key value : List ℕ) (w : Storable z img
             (place-sound p);
         chained =
             stays-chained (join z img₁ s) (freeHead z img₁) 0 p
-            (λ u m. let d : IsChained z img₁ u = without-left z img sound key u m in (d .0, (d .1 .0, join-stays z img₁ s hs sound₁ ne (d .0) u (d .1 .0) (d .1 .1))));
+            (λ u m.
+            let d : IsChained z img₁ u = without-left z img sound key u m in
+            (d .0, (d .1 .0, join-stays z img₁ s hs sound₁ ne (d .0) u (d .1 .0) (d .1 .1))));
         pairs = λ F. place-pairs p F
             ∙ ap (λ (k : ℕ). k + F (record { key = key; value = value })) (join-pairs z img₁ s hs sound₁ ne F);
       }

@@ -132,7 +132,8 @@ module _ (z : Shape) (img : List ℕ) (sound : SoundImage z img) (key : List ℕ
       ∙ sym (those-total (λ (p : Pair). not (same (p .key) key)) F (pairsOf z img))
 
   -- no slot of a chain stands for the key
-  pub without-absent : (s : ℕ) → s < z .settings .segments → (u : ℕ) → List·Memᴰ u (chain z (without z img key) s) → (k : ℕ) → k < z .settings .slots
+  pub without-absent : (s : ℕ) → s < z .settings .segments → (u : ℕ) → List·Memᴰ u (chain z (without z img key) s) → (k : ℕ)
+      → k < z .settings .slots
       → slotAt z (without z img key) u k ≢ 0 → keyAt z (without z img key) u k ≢ key
   unfolding keyAt liveAt
   without-absent s hs u mu k hk fk e =

@@ -29,7 +29,8 @@ module _ (z : Shape) (img : List ℕ) where
   unfolding entryAt
   entry-made t j p = rw p
 
-  pub live-made : (s t j : ℕ) {c n : ℕ} {e : Entry} → c ≡ chunkOf z img t j → e ≡ entryAt z img t j → n ≡ chunksFor settings (e .keyLength) (e .valueLength)
+  pub live-made : (s t j : ℕ) {c n : ℕ} {e : Entry} → c ≡ chunkOf z img t j → e ≡ entryAt z img t j
+      → n ≡ chunksFor settings (e .keyLength) (e .valueLength)
       → record { segment = s; tier = t; slot = j; chunk = c; chunks = n; entry = e } ≡ liveAt z img s t j
   unfolding liveAt
   live-made s t j p q r =
@@ -55,7 +56,8 @@ module _ (z : Shape) (img : List ℕ) where
   unfolding liveIn
   length-liveIn s t = length-map (fullSlots z img t) (liveAt z img s t)
 
-  pub liveIn-in : (s t : ℕ) (e : Live) → List·Memᴰ e (liveIn z img s t) → (j : ℕ) × (j < slots) × (slotAt z img t j ≢ 0) × (e ≡ liveAt z img s t j)
+  pub liveIn-in : (s t : ℕ) (e : Live) → List·Memᴰ e (liveIn z img s t)
+      → (j : ℕ) × (j < slots) × (slotAt z img t j ≢ 0) × (e ≡ liveAt z img s t j)
   unfolding liveIn
   liveIn-in s t e m =
       let r : (j : ℕ) × List·Memᴰ j (fullSlots z img t) × (liveAt z img s t j ≡ e) = Memᴰ·of-map (liveAt z img s t) (fullSlots z img t) m in
@@ -75,13 +77,15 @@ module _ (z : Shape) (img : List ℕ) where
     pub full : slotAt z img (e .tier) (e .slot) ≢ 0
     pub is : e ≡ liveAt z img (e .segment) (e .tier) (e .slot)
 
-  pub in-live : (s t j : ℕ) → s < segments → List·Memᴰ t (chain z img s) → j < slots → slotAt z img t j ≢ 0 → List·Memᴰ (liveAt z img s t j) (live z img)
+  pub in-live : (s t j : ℕ) → s < segments → List·Memᴰ t (chain z img s) → j < slots → slotAt z img t j ≢ 0
+      → List·Memᴰ (liveAt z img s t j) (live z img)
   unfolding live liveOf
   in-live s t j hs mt hj full =
       in-flatMap (liveOf z img) (below segments) (in-span 0 segments s (omega arith) (omega arith))
       (in-flatMap (liveIn z img s) (chain z img s) mt (in-liveIn s t j hj full))
 
-  is-live : (s t j : ℕ) (e : Live) → e ≡ liveAt z img s t j → s < segments → List·Memᴰ t (chain z img s) → j < slots → slotAt z img t j ≢ 0 → IsLive e
+  is-live : (s t j : ℕ) (e : Live) → e ≡ liveAt z img s t j → s < segments → List·Memᴰ t (chain z img s) → j < slots → slotAt z img t j ≢ 0
+      → IsLive e
   unfolding liveAt
   is-live s t j e is hs mt hj full =
       subst IsLive (sym is) (record { segmentIn = hs; tierIn = mt; slotIn = hj; full = full; is = refl })
@@ -90,6 +94,7 @@ module _ (z : Shape) (img : List ℕ) where
   unfolding live liveOf
   live-in e m =
       let a : (s : ℕ) × List·Memᴰ s (below segments) × List·Memᴰ e (liveOf z img s) = flatMap-in (liveOf z img) (below segments) m in
-      let b : (t : ℕ) × List·Memᴰ t (chain z img (a .0)) × List·Memᴰ e (liveIn z img (a .0) t) = flatMap-in (liveIn z img (a .0)) (chain z img (a .0)) (a .2) in
+      let b : (t : ℕ) × List·Memᴰ t (chain z img (a .0)) × List·Memᴰ e (liveIn z img (a .0) t) =
+      flatMap-in (liveIn z img (a .0)) (chain z img (a .0)) (a .2) in
       let c : (j : ℕ) × (j < slots) × (slotAt z img (b .0) j ≢ 0) × (e ≡ liveAt z img (a .0) (b .0) j) = liveIn-in (a .0) (b .0) e (b .2) in
       is-live (a .0) (b .0) (c .0) e (c .3) (omega (arith, span-in 0 segments (a .0) (a .1))) (b .1) (c .1) (c .2)

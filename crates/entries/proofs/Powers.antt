@@ -26,7 +26,8 @@ pow-between j k a b =
 pub leadingZeros-power : (n : ℕ) → PowerOfTwo n → (leadingZeros 64 n ≤ 63) × (n ≡ 2 ^ (63 - leadingZeros 64 n))
 leadingZeros-power n p =
     let small : n < 2 ^ 64 = omega (arith, p .1 .1, pow-mono {i = p .0} {j = 24} (omega (arith, p .1 .0))) in
-    let t : (j : ℕ) × (leadingZeros 64 n + suc j ≡ 64) × (2 ^ j ≤ n) × (n < 2 ^ suc j) = leading-top 64 n (omega (arith, p .1 .1, pow-pos (p .0))) small in
+    let t : (j : ℕ) × (leadingZeros 64 n + suc j ≡ 64) × (2 ^ j ≤ n) × (n < 2 ^ suc j) =
+    leading-top 64 n (omega (arith, p .1 .1, pow-pos (p .0))) small in
     let same : t .0 ≡ p .0 =
     pow-between (t .0) (p .0) (subst (λ (x : ℕ). 2 ^ t .0 ≤ x) (p .1 .1) (t .2)) (subst (λ (x : ℕ). x < 2 ^ suc (t .0)) (p .1 .1) (t .3))
     in

@@ -66,7 +66,8 @@ module _ (z : Shape) (img : List ℕ) (t c : ℕ) where
   unfolding stored afterKeyLength
   stored-key-refused e = rw (e, stored)
 
-  pub stored-value-refused : {k next : ℕ} → decode (upToChunks z img t) (chunkAt z t c) ≡ Number k next → decode (upToChunks z img t) (next + k) ≡ Refused
+  pub stored-value-refused : {k next : ℕ} → decode (upToChunks z img t) (chunkAt z t c) ≡ Number k next
+      → decode (upToChunks z img t) (next + k) ≡ Refused
       → stored z img t c ≡ Broken
   unfolding stored afterKeyLength afterValueLength
   stored-value-refused e f = rw (e, stored, f)
@@ -101,10 +102,13 @@ module _ (z : Shape) (img : List ℕ) (t c : ℕ) where
   in-image : (at n next : ℕ) → EncodedAt (upToChunks z img t) at n next → (next ≤ chunkAt z t chunks) × (cut img at (length (encode n)) ≡ encode n)
   in-image at n next s =
       let size : 1 ≤ length (encode n) = length-encode n (s .small) .0 in
-      let room : at + length (encode n) ≤ length (upToChunks z img t) = cut-room (upToChunks z img t) at (length (encode n)) size (ap length (s .form)) in
-      (omega (arith, s .after, length-upToChunks), sym (cut-take img (chunkAt z t chunks) at (length (encode n)) (omega (arith, length-upToChunks))) ∙ s .form)
+      let room : at + length (encode n) ≤ length (upToChunks z img t) = cut-room (upToChunks z img t) at (length (encode n)) size (ap length (s .form)) in (
+        omega (arith, s .after, length-upToChunks),
+        sym (cut-take img (chunkAt z t chunks) at (length (encode n)) (omega (arith, length-upToChunks))) ∙ s .form,
+      )
 
-  in-chunks : (at n next : ℕ) → n ≤ largestLength → next ≡ at + length (encode n) → next ≤ chunkAt z t chunks → cut img at (length (encode n)) ≡ encode n
+  in-chunks : (at n next : ℕ) → n ≤ largestLength → next ≡ at + length (encode n) → next ≤ chunkAt z t chunks
+      → cut img at (length (encode n)) ≡ encode n
       → EncodedAt (upToChunks z img t) at n next
   in-chunks at n next small after within form =
       record { small = small; form = cut-take img (chunkAt z t chunks) at (length (encode n)) (omega arith) ∙ form; after = after }
@@ -144,7 +148,8 @@ module _ (z : Shape) (img : List ℕ) (t c : ℕ) where
   entry-small = lengths-small (stored z img t c) refl
 
   -- where the value's length is looked for is a small number
-  pub key-end-small : {k next : ℕ} → Framed z (length img) → IsTier z t → decode (upToChunks z img t) (chunkAt z t c) ≡ Number k next → next + k ≤ 2 ^ 25
+  pub key-end-small : {k next : ℕ} → Framed z (length img) → IsTier z t → decode (upToChunks z img t) (chunkAt z t c) ≡ Number k next
+      → next + k ≤ 2 ^ 25
   key-end-small {k} {next} fr it h =
       let s : EncodedAt (upToChunks z img t) (chunkAt z t c) k next = decode-sound _ _ _ _ h in
       omega (arith, s .small, in-image (chunkAt z t c) k next s .0, chunks-inside fr t it, fr .within, fr .small)
@@ -185,7 +190,8 @@ decode-ext : (l l′ : List ℕ) (at : ℕ) → drop at l ≡ drop at l′ → d
 unfolding decode
 decode-ext l l′ at e = rw e
 
-afterKeyLength-ext : (l l′ : List ℕ) (a : ℕ) → drop a l ≡ drop a l′ → (d : Decoded) → decode l a ≡ d → afterKeyLength l d ≡ afterKeyLength l′ d
+afterKeyLength-ext : (l l′ : List ℕ) (a : ℕ) → drop a l ≡ drop a l′ → (d : Decoded) → decode l a ≡ d
+    → afterKeyLength l d ≡ afterKeyLength l′ d
 unfolding afterKeyLength
 afterKeyLength-ext l l′ a e Refused h = refl
 afterKeyLength-ext l l′ a e (Number k next) h =
@@ -208,7 +214,8 @@ module _ (z : Shape) (img img′ : List ℕ) (t c : ℕ) where
       ⊎-elim
       (λ (h : c < chunks).
       let le : c ≤ chunks = omega arith in
-      let e : drop (chunkAt z t c) (upToChunks z img t) ≡ drop (chunkAt z t c) (upToChunks z img′ t) = from-chunk img le ∙ same le ∙ sym (from-chunk img′ le) in
+      let e : drop (chunkAt z t c) (upToChunks z img t) ≡ drop (chunkAt z t c) (upToChunks z img′ t) =
+      from-chunk img le ∙ same le ∙ sym (from-chunk img′ le) in
       afterKeyLength-ext (upToChunks z img t) (upToChunks z img′ t) (chunkAt z t c) e _ refl
       ∙ ap (afterKeyLength (upToChunks z img′ t)) (decode-ext (upToChunks z img t) (upToChunks z img′ t) (chunkAt z t c) e))
       (λ h. stored-past z img t c h ∙ sym (stored-past z img′ t c h))

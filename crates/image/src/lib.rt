@@ -67,7 +67,8 @@ pub enum Listed {
 // The stages after the settings, each over the whole image before the next.
 fn examine_image(st: Settings, img: &[u8]) -> Examined
     requires { ⌜ Valid st ⌝ }
-    ensures { λ r. ⌜ r ≡ afterFrame (shapeOf st (now (img .entry))) (now (img .entry)) (frameFits? (shapeOf st (now (img .entry))) (now (img .entry))) ⌝ }
+    ensures { λ r. ⌜ r ≡ afterFrame (shapeOf st (now (img .entry))) (now (img .entry))
+        (frameFits? (shapeOf st (now (img .entry))) (now (img .entry))) ⌝ }
 {
     let Frame::Fits(z) = layout::frame_of(st, img) else {
         return Examined::Refused(Stage::Frame);

@@ -56,7 +56,8 @@ module _ (z : Shape) (img : List ℕ) (s : ℕ) (hs : s < z .settings .segments)
         previousIs = j .counters previous (omega arith) u iu nu ∙ w .previousIs;
       }
 
-  stood : (q i : ℕ) → q < z .settings .segments → i < length (chain z img q) → StandsAt z img′ q i (getD (chain z img q) i 0) (getD (0 ∷ chain z img q) i 0)
+  stood : (q i : ℕ) → q < z .settings .segments → i < length (chain z img q)
+      → StandsAt z img′ q i (getD (chain z img q) i 0) (getD (0 ∷ chain z img q) i 0)
   stood q i hq h =
       let u : ℕ = getD (chain z img q) i 0 in
       let m : List·Memᴰ u (chain z img q) = member (chain z img q) i h in

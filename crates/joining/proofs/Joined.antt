@@ -122,8 +122,10 @@ module _ (z : Shape) (img : List ℕ) (s : ℕ) (hs : s < z .settings .segments)
   join-clear i h = new-marks z img s hs sound ne (join z img s) done i h
 
   -- a key that no slot of the chain stands for is in no slot of the longer chain
-  pub join-absent : (key : List ℕ) → ((u : ℕ) → List·Memᴰ u (chain z img s) → (k : ℕ) → k < z .settings .slots → slotAt z img u k ≢ 0 → keyAt z img u k ≢ key)
-      → (u : ℕ) → List·Memᴰ u (chain z (join z img s) s) → (k : ℕ) → k < z .settings .slots → slotAt z (join z img s) u k ≢ 0 → keyAt z (join z img s) u k ≢ key
+  pub join-absent : (key : List ℕ)
+      → ((u : ℕ) → List·Memᴰ u (chain z img s) → (k : ℕ) → k < z .settings .slots → slotAt z img u k ≢ 0 → keyAt z img u k ≢ key)
+      → (u : ℕ) → List·Memᴰ u (chain z (join z img s) s) → (k : ℕ) → k < z .settings .slots → slotAt z (join z img s) u k ≢ 0
+      → keyAt z (join z img s) u k ≢ key
   join-absent key absent u m k hk f e =
       let b : Before z img s hs sound ne (join z img s) done s u k = full-before z img s hs sound ne (join z img s) done s hs u m k hk f in
       absent u (b .within) k hk (b .full) (sym (b .key) ∙ e)

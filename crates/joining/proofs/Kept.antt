@@ -54,7 +54,8 @@ module _ {z : Shape} {img : List ℕ} (im : Image z img) (s t l a b n : ℕ) (it
       (every-none _))))))))
 
   -- one of another kind
-  by-kinds : (q : Place) → (kind q ≢ 1) × (kind q ≢ 2) × (kind q ≢ 7) × (kind q ≢ 9) × (kind q ≢ 10) × (kind q ≢ 12) × (kind q ≢ 13) → NotWritten q
+  by-kinds : (q : Place) → (kind q ≢ 1) × (kind q ≢ 2) × (kind q ≢ 7) × (kind q ≢ 9) × (kind q ≢ 10) × (kind q ≢ 12) × (kind q ≢ 13)
+      → NotWritten q
   by-kinds q k =
       record {
         last = λ e. shared-never z nextTier next l q (k .2) (k .3) (sym e);
@@ -79,7 +80,8 @@ module _ {z : Shape} {img : List ℕ} (im : Image z img) (s t l a b n : ℕ) (it
         place = shared-never z nextTier next u (tier t (counter order)) (omega arith) (omega arith);
       })
 
-  pub counter-kept : (f : Counter) → counterNo f ≢ 0 → (u : ℕ) → IsTier z u → u ≢ t → get z after (tier u (counter f)) ≡ get z img (tier u (counter f))
+  pub counter-kept : (f : Counter) → counterNo f ≢ 0 → (u : ℕ) → IsTier z u → u ≢ t
+      → get z after (tier u (counter f)) ≡ get z img (tier u (counter f))
   counter-kept f nf u iu nt =
       kept (tier u (counter f)) (iu, tt)
       (record {

@@ -12,7 +12,8 @@ use Rattle.chains.specs.Chains.{chain, nextOf, freeHead}
 use Rattle.joining.specs.Joining.{lastTier, join}
 
 -- a write keeps the image's length
-pub framed-put : {z : Shape} {img′ : List ℕ} (img : List ℕ) (p : Place) (v : ℕ) → Framed z (length img) → img′ ≡ put z img p v → Framed z (length img′)
+pub framed-put : {z : Shape} {img′ : List ℕ} (img : List ℕ) (p : Place) (v : ℕ) → Framed z (length img) → img′ ≡ put z img p v
+    → Framed z (length img′)
 framed-put {z} img p v fr e = subst (λ (n : ℕ). Framed z n) (sym (ap length e ∙ length-put z img p v)) fr
 
 module _ (z : Shape) (img : List ℕ) (s : ℕ) where

@@ -32,7 +32,8 @@ use Rattle.joining.proofs.Fitting.{chained-longer}
 use Rattle.joining.proofs.Writes.{Joins}
 
 -- a sum over empty slots
-table-empty : (z : Shape) (img : List ℕ) (t : ℕ) (f : ℕ → ℕ) → Below (z .settings .slots) (λ k. slotAt z img t k ≡ 0) → (n : ℕ) → n ≤ z .settings .slots
+table-empty : (z : Shape) (img : List ℕ) (t : ℕ) (f : ℕ → ℕ) → Below (z .settings .slots) (λ k. slotAt z img t k ≡ 0) → (n : ℕ)
+    → n ≤ z .settings .slots
     → slotTotal (slotsOf z t) (ifFull f) img n ≡ 0
 unfolding slotTotal ifFull
 table-empty z img t f e zero h = refl
@@ -84,7 +85,8 @@ module _ (z : Shape) (img : List ℕ) (s : ℕ) (hs : s < z .settings .segments)
 
   -- ---- the tiers of a chain are those of before, and in one chain the new one
 
-  pub in-chain : (q : ℕ) → q < z .settings .segments → (u : ℕ) → List·Memᴰ u (chain z img′ q) → List·Memᴰ u (chain z img q) ⊎ (u ≡ freeHead z img)
+  pub in-chain : (q : ℕ) → q < z .settings .segments → (u : ℕ) → List·Memᴰ u (chain z img′ q)
+      → List·Memᴰ u (chain z img q) ⊎ (u ≡ freeHead z img)
   in-chain q hq u m =
       ⊎-elim
       (λ (e : q ≡ s).

@@ -27,7 +27,8 @@ pub record Joins (z : Shape) (img img′ : List ℕ) (s t l n : ℕ) : Type 0 wh
   pub previousNew : get z img′ (tier t (counter previous)) ≡ l
   pub segmentNew : get z img′ (tier t (counter segment)) ≡ s
   pub orderNew : get z img′ (tier t (counter order)) ≡ n
-  pub counters : (f : Counter) → counterNo f ≢ 0 → (u : ℕ) → IsTier z u → u ≢ t → get z img′ (tier u (counter f)) ≡ get z img (tier u (counter f))
+  pub counters : (f : Counter) → counterNo f ≢ 0 → (u : ℕ) → IsTier z u → u ≢ t
+      → get z img′ (tier u (counter f)) ≡ get z img (tier u (counter f))
   pub sameTiers : (u : ℕ) → IsTier z u → SameTier z img img′ u
   pub counts : (u : ℕ) → IsTier z u → SameCounters z img img′ u
   pub globals : (f : Global) → globalNo f ≢ 1 → globalNo f ≢ 2 → get z img′ (global f) ≡ get z img (global f)
@@ -66,7 +67,8 @@ module _ {z : Shape} {img : List ℕ} (im : Image z img) (s t l a b n : ℕ) (it
   from-new p k1 k2 k3 ne = spare p _ 0 _ (shared-in z nextTier next t it) ne (from-counters p k1 k2 k3)
 
   next-kind : (u k : ℕ) → k ≢ 7 → k ≢ 9 → kind (nextPlace z u) ≢ k
-  next-kind u k k1 k2 e = ⊎-elim (λ (d : kind (nextPlace z u) ≡ 7). omega arith) (λ (d : kind (nextPlace z u) ≡ 9). omega arith) (shared-kind z nextTier next u)
+  next-kind u k k1 k2 e =
+      ⊎-elim (λ (d : kind (nextPlace z u) ≡ 7). omega arith) (λ (d : kind (nextPlace z u) ≡ 9). omega arith) (shared-kind z nextTier next u)
 
   next-wide : (u : ℕ) → wide z (nextPlace z u) ≡ 8
   next-wide u = shared-wide z nextTier next u refl

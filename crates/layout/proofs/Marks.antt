@@ -77,7 +77,8 @@ module _ {z : Shape} {len : ℕ} (fr : Framed z len) (img : List ℕ) where
       (lt-or j (freeListAt z t))
 
   -- a place that is not in the tier's free list, by a change of its marks
-  pub get-putMarks-other : (t c n b : ℕ) (p : Place) → IsTier z t → c + n ≤ chunks → In z p → NoFree t p → get z (putMarks z img t c n b) p ≡ get z img p
+  pub get-putMarks-other : (t c n b : ℕ) (p : Place) → IsTier z t → c + n ≤ chunks → In z p → NoFree t p
+      → get z (putMarks z img t c n b) p ≡ get z img p
   unfolding get putMarks
   get-putMarks-other t c n b p it fits h ne =
       le-ext _ _ (at z p) (wide z p) (λ j lo hi. getD-putBits-out img (freeListAt z t) c n b j (no-mark t c n p j it fits h ne lo hi))
@@ -94,7 +95,8 @@ module _ {z : Shape} {len : ℕ} (fr : Framed z len) (img : List ℕ) where
 
 -- ---- the marks of the tier itself
 
-pub mark-putMarks-out : (z : Shape) (img : List ℕ) (t c n b i : ℕ) → b < 2 → (i < c) ⊎ (c + n ≤ i) → mark z (putMarks z img t c n b) t i ≡ mark z img t i
+pub mark-putMarks-out : (z : Shape) (img : List ℕ) (t c n b i : ℕ) → b < 2 → (i < c) ⊎ (c + n ≤ i)
+    → mark z (putMarks z img t c n b) t i ≡ mark z img t i
 unfolding mark putMarks
 mark-putMarks-out z img t c n b i h o = bit-putBits-out img (freeListAt z t) c n b i h o
 

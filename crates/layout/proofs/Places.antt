@@ -156,7 +156,8 @@ module _ (z : Shape) (f : Header) (g : Counter) where
   shared-extra t h = rw (lt-leb t (z .settings .segments) h, sharedPlace)
 
   pub shared-is : (t : ℕ)
-      → ((t ≤ z .settings .segments) × (sharedPlace z f g t ≡ header (t - 1) f)) ⊎ ((z .settings .segments < t) × (sharedPlace z f g t ≡ tier t (counter g)))
+      → ((t ≤ z .settings .segments) × (sharedPlace z f g t ≡ header (t - 1) f)) ⊎
+      ((z .settings .segments < t) × (sharedPlace z f g t ≡ tier t (counter g)))
   shared-is t = ⊎-elim (λ h. inr (h, shared-extra t h)) (λ h. inl (h, shared-main t h)) (lt-or (z .settings .segments) t)
 
   pub shared-at : (t : ℕ) → at z (sharedPlace z f g t) ≡ sharedAt z t (8 + fieldAt headerWidths (headerNo f)) (fieldAt counterWidths (counterNo g))

@@ -30,7 +30,8 @@ front-last : (n : ℕ) (l : List ℕ) (at : ℕ) → at < length l → getD l at
 unfolding front
 front-last n l at h b = rw (drop-cons l at 0 h, front, lt-ltb _ 128 b)
 
-front-more : (n : ℕ) (l : List ℕ) (at : ℕ) → at < length l → 128 ≤ getD l at 0 → front (suc n) (drop at l) ≡ getD l at 0 ∷ front n (drop (at + 1) l)
+front-more : (n : ℕ) (l : List ℕ) (at : ℕ) → at < length l → 128 ≤ getD l at 0
+    → front (suc n) (drop at l) ≡ getD l at 0 ∷ front n (drop (at + 1) l)
 unfolding front
 front-more n l at h b = rw (add-one, drop-cons l at 0 h, front, le-ltb _ 128 b)
 
@@ -206,7 +207,8 @@ accept-sound bs at n next h =
     (λ (u : leb (value bs) largestLength ≡ false).
     let e : Refused ≡ Number n next = rw (t, u, accept) at h in
     absurd (let z : _≡_ {A = ℕ} 0 1 = cc in omega arith)))
-    (λ (t : same bs (encode (value bs)) ≡ false). let e : Refused ≡ Number n next = rw (t, accept) at h in absurd (let z : _≡_ {A = ℕ} 0 1 = cc in omega arith))
+    (λ (t : same bs (encode (value bs)) ≡ false).
+    let e : Refused ≡ Number n next = rw (t, accept) at h in absurd (let z : _≡_ {A = ℕ} 0 1 = cc in omega arith))
 
 pub decode-sound : (l : List ℕ) (at n next : ℕ) → decode l at ≡ Number n next → EncodedAt l at n next
 unfolding decode
@@ -239,7 +241,8 @@ module _ (l : List ℕ) (at n : ℕ) where
       ∙ accept-2 at (128 + n % 128) (n / 128) (omega arith) (omega arith) (omega arith) (omega arith)
       ∙ ap (λ (k : ℕ). Number k (at + 2)) same
 
-  complete-3 : 16384 ≤ n → n ≤ largestLength → cut l at 3 ≡ (128 + n % 128) ∷ (128 + n / 128 % 128) ∷ (n / 128 / 128) ∷ [] → decode l at ≡ Number n (at + 3)
+  complete-3 : 16384 ≤ n → n ≤ largestLength → cut l at 3 ≡ (128 + n % 128) ∷ (128 + n / 128 % 128) ∷ (n / 128 / 128) ∷ []
+      → decode l at ≡ Number n (at + 3)
   complete-3 lo hi e =
       let bs : List ℕ = (128 + n % 128) ∷ (128 + n / 128 % 128) ∷ (n / 128 / 128) ∷ [] in
       let room : at + 3 ≤ length l = cut-room l at (length bs) (omega arith) (ap length e) in

@@ -47,7 +47,8 @@ module _ (read rest : List ℕ) (ended : Bool) where
   unfolding readingLength
   length-stays end = needed-stays Frame (imageAt end) _ _ (λ h d. rw (be-append read rest end 4 h) (image-stays end (be read end 4) d))
 
-  parsed-stays : (p : Parsed) (next next′ : Input) → (Decided next → next′ ≡ next) → Decided (fromParsed p next) → fromParsed p next′ ≡ fromParsed p next
+  parsed-stays : (p : Parsed) (next next′ : Input) → (Decided next → next′ ≡ next) → Decided (fromParsed p next)
+      → fromParsed p next′ ≡ fromParsed p next
   unfolding fromParsed
   parsed-stays BadBlock next next′ same d = refl
   parsed-stays BadField next next′ same d = refl

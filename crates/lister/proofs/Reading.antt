@@ -57,10 +57,12 @@ module _ {end at : ℕ} (ends : Ends end at) (read : List ℕ) (ended : Bool) wh
 
   pub image-next : {n : ℕ} → n ≤ limit → readingImage end n read ended ≡ needed Frame (at + n) read ended (Whole end n)
   image-next {n} h =
-      subst (λ (x : ℕ). readingImage end n read ended ≡ needed Frame (x + n) read ended (Whole end n)) (sym (ends .starts)) (image-short end n read ended h)
+      subst (λ (x : ℕ). readingImage end n read ended ≡ needed Frame (x + n) read ended (Whole end n)) (sym (ends .starts))
+      (image-short end n read ended h)
 
 module _ (end : ℕ) (read : List ℕ) (ended : Bool) where
-  pub block-next : {p : Parsed} → end ≤ length read → p ≡ parse (take end read) → readingBlock end read ended ≡ fromParsed p (readingLength end read ended)
+  pub block-next : {p : Parsed} → end ≤ length read → p ≡ parse (take end read)
+      → readingBlock end read ended ≡ fromParsed p (readingLength end read ended)
   unfolding readingBlock
   block-next h e = rw e (needed-there _ end read ended _ h)
 
@@ -89,7 +91,8 @@ missing-bounds read true s n l h = tt
 missing-bounds read false s n l h = (refl, l, h)
 
 module _ (read : List ℕ) (ended : Bool) where
-  needed-bounds : (s : Stage) (n : ℕ) (next : Input) → n ≤ longest → (n ≤ length read → Bounds read ended next) → Bounds read ended (needed s n read ended next)
+  needed-bounds : (s : Stage) (n : ℕ) (next : Input) → n ≤ longest → (n ≤ length read → Bounds read ended next)
+      → Bounds read ended (needed s n read ended next)
   needed-bounds s n next h f =
       ⊎-elim
       (λ (l : length read < n). rw (needed-short s n read ended next l) (missing-bounds read ended s n l h))
@@ -125,7 +128,8 @@ module _ (read : List ℕ) (ended : Bool) where
 
 -- ---- so a buffer of the longest input is enough, and reading on ends
 
-module _ (buf : List ℕ) (got : ℕ) (ended : Bool) {r : Input} (fits : (length buf ≡ longest) × (got ≤ longest)) (due : r ≡ reading (take got buf) ended) where
+module _ (buf : List ℕ) (got : ℕ) (ended : Bool) {r : Input} (fits : (length buf ≡ longest) × (got ≤ longest))
+    (due : r ≡ reading (take got buf) ended) where
   pub more-asked : {n : ℕ} → r ≡ More n → (ended ≡ false) × (got < n) × (n ≤ longest)
   more-asked {n} e =
       let bounds : Bounds (take got buf) ended (More n) = rw (sym due ∙ e) at (reading-bounds (take got buf) ended) in
@@ -144,6 +148,7 @@ abbrev pub turns : ℕ → Bool → ℕ
 turns got true = 0
 turns got false = 1 + (longest - got)
 
-pub reads-on : {ended : Bool} {got n : ℕ} (more : ℕ) → (ended ≡ false) × (got < n) × (n ≤ longest) → turns (got + more) (ltb (got + more) n) < turns got ended
+pub reads-on : {ended : Bool} {got n : ℕ} (more : ℕ) → (ended ≡ false) × (got < n) × (n ≤ longest)
+    → turns (got + more) (ltb (got + more) n) < turns got ended
 reads-on {ended} {got} {n} more h =
     rw (h .0) (by-test (ltb (got + more) n) (λ t. rw t (omega arith)) (λ t. rw t (omega (arith, ltb-false (got + more) n t))))

@@ -31,7 +31,8 @@ pub span-in : (a n i : ℕ) → List·Memᴰ i (span a n) → (a ≤ i) × (i < 
 unfolding span
 span-in a zero i m = absurd (List·Memᴰ·not-nil m)
 span-in a (suc n) i m =
-    ⊎-elim (λ (e : i ≡ a). omega arith) (λ k. let h : (suc a ≤ i) × (i < suc a + n) = span-in (suc a) n i k in omega arith) (List·Memᴰ·cases-cons m)
+    ⊎-elim (λ (e : i ≡ a). omega arith) (λ k. let h : (suc a ≤ i) × (i < suc a + n) = span-in (suc a) n i k in omega arith)
+    (List·Memᴰ·cases-cons m)
 
 pub length-span : (a n : ℕ) → length (span a n) ≡ n
 unfolding span
@@ -60,7 +61,8 @@ module _ {A : Type 0} where
   pub flatMap-below : (f : ℕ → List A) (n : ℕ) → flatMap f (below (n + 1)) ≡ flatMap f (below n) ++ f n
   flatMap-below f n = rw (add-one, span-more 0 n, zero-add) (flatMap-last f (below n) n)
 
-  pub flatMap-take-more : (f : ℕ → List A) (xs : List ℕ) (i : ℕ) → i < length xs → flatMap f (take (i + 1) xs) ≡ flatMap f (take i xs) ++ f (getD xs i 0)
+  pub flatMap-take-more : (f : ℕ → List A) (xs : List ℕ) (i : ℕ) → i < length xs
+      → flatMap f (take (i + 1) xs) ≡ flatMap f (take i xs) ++ f (getD xs i 0)
   flatMap-take-more f xs i h = rw (add-one, take-suc xs i 0) (flatMap-last f (take i xs) (getD xs i 0))
 
   pub flatMap-one : (xs : List A) → flatMap (λ x. x ∷ []) xs ≡ xs

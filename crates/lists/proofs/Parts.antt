@@ -14,11 +14,13 @@ use Rattle.lists.proofs.SameLists.{same-flatMap}
 pub parts-same : (f f′ : ℕ → List ℕ) (n : ℕ) → Below n (λ i. f′ i ≡ f i) → flatMap f′ (below n) ≡ flatMap f (below n)
 parts-same f f′ n e = same-flatMap f′ f (below n) (λ i m. e i (omega (arith, span-in 0 n i m)))
 
-module _ (m : List ℕ → ℕ) (adds : (xs ys : List ℕ) → m (xs ++ ys) ≡ m xs + m ys) (f f′ : ℕ → List ℕ) (s t : ℕ) (here : f′ s ≡ f s ++ (t ∷ [])) where
+module _ (m : List ℕ → ℕ) (adds : (xs ys : List ℕ) → m (xs ++ ys) ≡ m xs + m ys) (f f′ : ℕ → List ℕ) (s t : ℕ)
+    (here : f′ s ≡ f s ++ (t ∷ [])) where
   pub parts-longer : (n : ℕ) → s < n → Below n (λ i. i ≢ s → f′ i ≡ f i) → m (flatMap f′ (below n)) ≡ m (flatMap f (below n)) + m (t ∷ [])
   parts-longer zero h e = absurd (omega arith)
   parts-longer (suc n) h e =
-      let a : m (flatMap f′ (below (n + 1))) ≡ m (flatMap f′ (below n)) + m (f′ n) = ap m (flatMap-below f′ n) ∙ adds (flatMap f′ (below n)) (f′ n) in
+      let a : m (flatMap f′ (below (n + 1))) ≡ m (flatMap f′ (below n)) + m (f′ n) =
+      ap m (flatMap-below f′ n) ∙ adds (flatMap f′ (below n)) (f′ n) in
       let b : m (flatMap f (below (n + 1))) ≡ m (flatMap f (below n)) + m (f n) = ap m (flatMap-below f n) ∙ adds (flatMap f (below n)) (f n) in
       rw (← add-one n)
       (⊎-elim

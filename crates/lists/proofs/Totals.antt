@@ -19,7 +19,8 @@ unfolding total
 total-same [] f f′ e = refl
 total-same (t ∷ ts) f f′ e = omega (arith, e t (List·Memᴰ·head refl), total-same ts f f′ (λ u m. e u (List·Memᴰ·tail m)))
 
-pub total-change : (ts : List ℕ) (t : ℕ) (f f′ : ℕ → ℕ) → howMany ts (eqb t) ≡ 1 → Every ts (λ u. u ≢ t → f′ u ≡ f u) → total ts f′ + f t ≡ total ts f + f′ t
+pub total-change : (ts : List ℕ) (t : ℕ) (f f′ : ℕ → ℕ) → howMany ts (eqb t) ≡ 1 → Every ts (λ u. u ≢ t → f′ u ≡ f u)
+    → total ts f′ + f t ≡ total ts f + f′ t
 unfolding total those
 total-change [] t f f′ one e = absurd (omega arith)
 total-change (x ∷ ts) t f f′ one e =
@@ -114,6 +115,7 @@ length-in-span a n (x ∷ l) e =
     omega arith
 
 -- where each number of the row is there once, the list is as long as the row
-pub length-span-once : (a n : ℕ) (l : List ℕ) → Every l (λ x. (a ≤ x) × (x < a + n)) → Every (span a n) (λ t. howMany l (eqb t) ≡ 1) → length l ≡ n
+pub length-span-once : (a n : ℕ) (l : List ℕ) → Every l (λ x. (a ≤ x) × (x < a + n)) → Every (span a n) (λ t. howMany l (eqb t) ≡ 1)
+    → length l ≡ n
 length-span-once a n l e once =
     length-in-span a n l e ∙ (total-same (span a n) (λ _. 1) (λ t. howMany l (eqb t)) once ∙ (sym (length-total (span a n)) ∙ length-span a n))

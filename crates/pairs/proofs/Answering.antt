@@ -80,7 +80,8 @@ module _ (block img : List ℕ) (a b : ℕ) where
   unfolding delay askChecked askPair fromLocated
   ask-fits f = by-outcome (check block img .outcome) refl
     where
-      by-outcome : (o : Outcome) → check block img .outcome ≡ o → askChecked block img a b o ≡ fromLocated block img a b (lookup block img (pairKey a b))
+      by-outcome : (o : Outcome) → check block img .outcome ≡ o
+          → askChecked block img a b o ≡ fromLocated block img a b (lookup block img (pairKey a b))
       by-outcome (outcome.Refused s) e = ap (fromLocated block img a b) (sym (check-lookup block img s (λ i. record { outcome = e i }) (pairKey a b)))
       by-outcome (outcome.Accepted c) e = choose-yes (channelsFit? a b) _ _ f
 
@@ -133,13 +134,15 @@ module _ (block img : List ℕ) (a b : ℕ) (d : ℤ) where
   unfolding setDelay setChecked setPair setRecord
   set-fits f n = by-outcome (check block img .outcome) refl
     where
-      by-outcome : (o : Outcome) → check block img .outcome ≡ o → fromStore block img (pairKey a b) (delayRecord (inOrder a b d)) ≡ setChecked block img a b d o
+      by-outcome : (o : Outcome) → check block img .outcome ≡ o
+          → fromStore block img (pairKey a b) (delayRecord (inOrder a b d)) ≡ setChecked block img a b d o
       by-outcome (outcome.Refused s) e =
           ap (λ (x : Edited). record { answer = set.Stored (x .answer); image = x .image })
           (check-store block img s (λ i. record { outcome = e i }) (pairKey a b) (delayRecord (inOrder a b d)))
       by-outcome (outcome.Accepted c) e = sym (choose-yes (channelsFit? a b) _ _ f ∙ choose-no (ℤ-discrete d mostNegative) _ _ n)
 
-  pub set-stored : ChannelsFit a b → d ≢ mostNegative → {key : List ℕ} → key ≡ pairKey a b → {bytes : List ℕ} → bytes ≡ delayRecord (inOrder a b d)
+  pub set-stored : ChannelsFit a b → d ≢ mostNegative → {key : List ℕ} → key ≡ pairKey a b → {bytes : List ℕ}
+      → bytes ≡ delayRecord (inOrder a b d)
       → {r : Answer} {img′ : List ℕ} → record { answer = r; image = img′ } ≡ store block img key bytes
       → record { answer = set.Stored r; image = img′ } ≡ setDelay block img a b d
   set-stored f n ek eb e =

@@ -42,7 +42,8 @@ module _ (block img : List ℕ) (bytes : Bytes img) (accepted : Accepted block i
   unfolding fromMap fromLocated
   ask-map a b f = ask-fits block img a b f ∙ by-get (mapGet (mapOf block img) (pairKey a b)) refl
     where
-      by-get : (o : Option Pair) → mapGet (mapOf block img) (pairKey a b) ≡ o → fromLocated block img a b (lookup block img (pairKey a b)) ≡ fromMap a b o
+      by-get : (o : Option Pair) → mapGet (mapOf block img) (pairKey a b) ≡ o
+          → fromLocated block img a b (lookup block img (pairKey a b)) ≡ fromMap a b o
       by-get none g = ap (fromLocated block img a b) (lookup-none block img bytes accepted (pairKey a b) (key-fits a b _) g)
       by-get (some p) g =
           let l : Looked block img (pairKey a b) p = lookup-some block img bytes accepted (pairKey a b) p g in
@@ -57,7 +58,8 @@ pub record AfterSet (block img : List ℕ) (a b : ℕ) (d : ℤ) (x : Setting) :
   pub others : (key : List ℕ) → key ≢ pairKey a b → mapGet (mapOf block (x .image)) key ≡ mapGet (mapOf block img) key
   -- answered 0, the pair's record is the delay's
   pub fits : setNumber (x .answer) ≡ 0 → ChannelsFit a b × (d ≢ mostNegative)
-  pub own : setNumber (x .answer) ≡ 0 → mapGet (mapOf block (x .image)) (pairKey a b) ≡ some (record { key = pairKey a b; value = delayRecord (inOrder a b d) })
+  pub own : setNumber (x .answer) ≡ 0
+      → mapGet (mapOf block (x .image)) (pairKey a b) ≡ some (record { key = pairKey a b; value = delayRecord (inOrder a b d) })
 
 module _ (block img : List ℕ) (bytes : Bytes img) (accepted : Accepted block img) (a b : ℕ) (d : ℤ) where
   -- nothing was stored

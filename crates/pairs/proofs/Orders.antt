@@ -36,7 +36,8 @@ module _ (a b : ℕ) where
 
 pub key-either : (a b : ℕ) → a ≢ b → pairKey b a ≡ pairKey a b
 key-either a b n =
-    ⊎-elim (λ (h : a < b). sym (key-last b a (omega arith)) ∙ key-first a b h) (λ (h : b ≤ a). sym (key-first b a (omega arith)) ∙ key-last a b h) (lt-or a b)
+    ⊎-elim (λ (h : a < b). sym (key-last b a (omega arith)) ∙ key-first a b h)
+    (λ (h : b ≤ a). sym (key-first b a (omega arith)) ∙ key-last a b h) (lt-or a b)
 
 pub sign-either : (a b : ℕ) (d : ℤ) → a ≢ b → inOrder b a d ≡ negℤ (inOrder a b d)
 sign-either a b d n =

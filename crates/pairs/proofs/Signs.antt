@@ -44,7 +44,8 @@ module _ (block : List ℕ) where
       ≡ replies block (pairRun block (pairLeaves block (pairRun block img before) c) between) c′
   unfolding pairReplies
   reply-second before c between c′ after img =
-      reply-later before (c ∷ (between ++ c′ ∷ after)) img (suc (length between)) ∙ reply-at between c′ after (pairLeaves block (pairRun block img before) c)
+      reply-later before (c ∷ (between ++ c′ ∷ after)) img (suc (length between))
+      ∙ reply-at between c′ after (pairLeaves block (pairRun block img before) c)
 
 -- ---- what a list of calls keeps
 
@@ -185,10 +186,12 @@ signs-kept block img bytes accepted calls =
           let q : calls ≡ before ++ (asks a b ∷ (between ++ asks b a ∷ after)) = e ∙ append-assoc before (asks a b ∷ between) (asks b a ∷ after) in
           rw q (sum-zero block img kept a b before between after none-set (rw q at z₁));
       sameOrder = λ a b d before between after e fits none-set z₁.
-          let q : calls ≡ before ++ (sets a b d ∷ (between ++ asks a b ∷ after)) = e ∙ append-assoc before (sets a b d ∷ between) (asks a b ∷ after) in
+          let q : calls ≡ before ++ (sets a b d ∷ (between ++ asks a b ∷ after)) =
+          e ∙ append-assoc before (sets a b d ∷ between) (asks a b ∷ after) in
           rw q (as-set block img kept a b before between after none-set d a b d (λ f. (f, refl, sign-twice a b d)) fits (rw q at z₁));
       otherOrder = λ a b d before between after e fits none-set z₁.
-          let q : calls ≡ before ++ (sets a b d ∷ (between ++ asks b a ∷ after)) = e ∙ append-assoc before (sets a b d ∷ between) (asks b a ∷ after) in
+          let q : calls ≡ before ++ (sets a b d ∷ (between ++ asks b a ∷ after)) =
+          e ∙ append-assoc before (sets a b d ∷ between) (asks b a ∷ after) in
           rw q (as-set block img kept a b before between after none-set d b a (negℤ d)
           (λ f. (swapped f, key-either a b (f .1 .1), sign-either a b (inOrder a b d) (f .1 .1) ∙ ap negℤ (sign-twice a b d))) fits
           (rw q at z₁));

@@ -51,7 +51,8 @@ NoSet a b (sets c d x ∷ cs) = (pairKey c d ≢ pairKey a b) × NoSet a b cs
 -- whatever the two calls are given: the numbers that they may answer; with any number but 0 an ask's delay is 0, and a set leaves every byte as it was
 pub record Refusals (block img : List ℕ) : Type 0 where
   pub askAnswers : (a b : ℕ) → List·Memᴰ (askedReply (delay block img a b) .number) (0 ∷ 1 ∷ 2 ∷ 3 ∷ 4 ∷ 5 ∷ 6 ∷ 7 ∷ 11 ∷ 12 ∷ [])
-  pub setAnswers : (a b : ℕ) (d : ℤ) → List·Memᴰ (setNumber (setDelay block img a b d .answer)) (0 ∷ 2 ∷ 3 ∷ 4 ∷ 5 ∷ 6 ∷ 7 ∷ 9 ∷ 10 ∷ 11 ∷ 12 ∷ [])
+  pub setAnswers : (a b : ℕ) (d : ℤ)
+      → List·Memᴰ (setNumber (setDelay block img a b d .answer)) (0 ∷ 2 ∷ 3 ∷ 4 ∷ 5 ∷ 6 ∷ 7 ∷ 9 ∷ 10 ∷ 11 ∷ 12 ∷ [])
   pub askRefused : (a b : ℕ) → askedReply (delay block img a b) .number ≢ 0 → askedReply (delay block img a b) .delay ≡ pos 0
   pub setRefused : (a b : ℕ) (d : ℤ) → setNumber (setDelay block img a b d .answer) ≢ 0 → setDelay block img a b d .image ≡ img
 

@@ -49,7 +49,8 @@ module _ (st : Settings) (key value : List ℕ) where
 
   pub entry-written : (img : List ℕ) (at : ℕ) {one two three four : List ℕ} {keyAt valueAt : ℕ} → keyAt ≡ at + length (encode (length key))
       → one ≡ sets img at (encode (length key)) → two ≡ sets one keyAt key → valueAt ≡ keyAt + length key + length (encode (length value))
-      → three ≡ sets two (keyAt + length key) (encode (length value)) → four ≡ sets three valueAt value → four ≡ sets img at (entryBytes st key value)
+      → three ≡ sets two (keyAt + length key) (encode (length value)) → four ≡ sets three valueAt value
+      → four ≡ sets img at (entryBytes st key value)
   unfolding entryBytes
   entry-written img at {one} {two} {three} {four} {keyAt} {valueAt} ek e₁ e₂ ev e₃ e₄ =
       let a : List ℕ = encode (length key) in

@@ -53,7 +53,8 @@ module _ (z : Shape) (img : List ℕ) (t c n : ℕ) (bs : List ℕ) (w : Writes 
     pub slot-old : (j : ℕ) → j < slots → j ≢ r → slotAt z (filled z img t c n bs r v) t j ≡ slotAt z img t j
     unfolding filled
     slot-old j h ne =
-        get-other fr wrote (tier t (slot r)) v (tier t (slot j)) (w .tierIn, slotIn) (w .tierIn, h) (λ e. let same : j ≡ r = cc in ne same) ∙ wrote-slot j h
+        get-other fr wrote (tier t (slot r)) v (tier t (slot j)) (w .tierIn, slotIn) (w .tierIn, h) (λ e. let same : j ≡ r = cc in ne same)
+        ∙ wrote-slot j h
 
     -- ---- the marks
 

@@ -35,7 +35,8 @@ module _ (z : Shape) (full : ℕ → ℕ) (isClear : ℕ → ℕ → Bool) where
   unfolding firstRun
   first-found t ts n u c e = rw (firstRun, e)
 
-  pub first-next : (t : ℕ) (ts : List ℕ) (n : ℕ) → runIn z full isClear t n ≡ Nowhere → firstRun z full isClear (t ∷ ts) n ≡ firstRun z full isClear ts n
+  pub first-next : (t : ℕ) (ts : List ℕ) (n : ℕ) → runIn z full isClear t n ≡ Nowhere
+      → firstRun z full isClear (t ∷ ts) n ≡ firstRun z full isClear ts n
   unfolding firstRun
   first-next t ts n e = rw (firstRun, e)
 

@@ -44,6 +44,7 @@ module _ {z : Shape} {img but : List ℕ} {s t c : ℕ} {key value : List ℕ} (
   pub place-chain : (q : ℕ) → q < z .settings .segments → chain z (placeAt z img t c key value) q ≡ chain z img q
   place-chain q h = ap (λ (x : List ℕ). chain z x q) place-is ∙ same-chain z img m (p .sound .fits .chains) (only .chains) q h
 
-  pub place-pairs : (F : Pair → ℕ) → total (pairsOf z (placeAt z img t c key value)) F ≡ total (pairsOf z img) F + F (record { key = key; value = value })
+  pub place-pairs : (F : Pair → ℕ)
+      → total (pairsOf z (placeAt z img t c key value)) F ≡ total (pairsOf z img) F + F (record { key = key; value = value })
   place-pairs F =
       rw place-is (omega (arith, pairs-replaced z img s t (p .segmentIn) (p .sound) (p .tierIn) m only F, weighs F))

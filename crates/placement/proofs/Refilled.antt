@@ -180,7 +180,8 @@ module _ {z : Shape} {img but : List ℕ} {s t c : ℕ} {key value : List ℕ} (
       (same-or k r))
       (same-or j r)
 
-  apart-after : (u : ℕ) → List·Memᴰ u (chain z img s) → u ≢ t → (j k : ℕ) → j < slots → k < slots → slotAt z m′ t j ≢ 0 → slotAt z img u k ≢ 0
+  apart-after : (u : ℕ) → List·Memᴰ u (chain z img s) → u ≢ t → (j k : ℕ) → j < slots → k < slots → slotAt z m′ t j ≢ 0
+      → slotAt z img u k ≢ 0
       → keyAt z m′ t j ≢ keyAt z img u k
   apart-after u mu ne j k hj hk fj fk e =
       ⊎-elim

@@ -81,7 +81,8 @@ module _ (z : Shape) (full : ℕ → ℕ) (isClear : ℕ → ℕ → Bool) where
   found (u ∷ ts) n t c h = first-run (runIn z full isClear u n) u ts n t c refl (found ts n t c) h
 
 pub run-found : (z : Shape) (full : ℕ → ℕ) (isClear : ℕ → ℕ → Bool) (ts : List ℕ) (n t c : ℕ) → firstRun z full isClear ts n ≡ At t c
-    → List·Memᴰ t ts × (full t + 2 ≤ z .settings .slots) × (c + n ≤ z .settings .chunks) × ((i : ℕ) → c ≤ i → i < c + n → isClear t i ≡ true)
+    → List·Memᴰ t ts × (full t + 2 ≤ z .settings .slots) × (c + n ≤ z .settings .chunks)
+    × ((i : ℕ) → c ≤ i → i < c + n → isClear t i ≡ true)
 run-found z full isClear ts n t c h =
     let q : List·Memᴰ t ts × Takes z full isClear t c n = found z full isClear ts n t c h in
     (q .0, q .1 .roomy, q .1 .ends, q .1 .clear)
@@ -92,7 +93,8 @@ module _ (z : Shape) (full full′ : ℕ → ℕ) (isClear isClear′ : ℕ → 
   open Shape z using (settings)
   open Settings settings using (slots, chunks)
 
-  clear-same : (t c n : ℕ) → Below chunks (λ i. isClear t i ≡ isClear′ t i) → c + n ≤ chunks → clearFrom z full isClear t c n ≡ clearFrom z full′ isClear′ t c n
+  clear-same : (t c n : ℕ) → Below chunks (λ i. isClear t i ≡ isClear′ t i) → c + n ≤ chunks
+      → clearFrom z full isClear t c n ≡ clearFrom z full′ isClear′ t c n
   unfolding clearFrom
   clear-same t c zero e h = refl
   clear-same t c (suc n) e h =
@@ -106,13 +108,15 @@ module _ (z : Shape) (full full′ : ℕ → ℕ) (isClear isClear′ : ℕ → 
       same-first (λ c. clearFrom z full isClear t c n) (λ c. clearFrom z full′ isClear′ t c n) (below (suc chunks - n))
       (λ c m. clear-same t c n e (omega (arith, span-in 0 (suc chunks - n) c m)))
 
-  run-in-same : (t n : ℕ) → full t ≡ full′ t → Below chunks (λ i. isClear t i ≡ isClear′ t i) → runIn z full isClear t n ≡ runIn z full′ isClear′ t n
+  run-in-same : (t n : ℕ) → full t ≡ full′ t → Below chunks (λ i. isClear t i ≡ isClear′ t i)
+      → runIn z full isClear t n ≡ runIn z full′ isClear′ t n
   unfolding runIn
   run-in-same t n e f =
       λ i. elim (leb (e i + 2) slots) [ false ↦ Nowhere | true ↦ fromLowest t (lowest-same t n f i) ]
 
 pub run-same : (z : Shape) (full full′ : ℕ → ℕ) (isClear isClear′ : ℕ → ℕ → Bool) (ts : List ℕ) (n : ℕ) → Every ts (λ t. full t ≡ full′ t)
-    → Every ts (λ t. Below (z .settings .chunks) (λ i. isClear t i ≡ isClear′ t i)) → firstRun z full isClear ts n ≡ firstRun z full′ isClear′ ts n
+    → Every ts (λ t. Below (z .settings .chunks) (λ i. isClear t i ≡ isClear′ t i))
+    → firstRun z full isClear ts n ≡ firstRun z full′ isClear′ ts n
 unfolding firstRun
 run-same z full full′ isClear isClear′ [] n e f = refl
 run-same z full full′ isClear isClear′ (t ∷ ts) n e f =

@@ -1,5 +1,5 @@
 -- What the functions that place an entry ask for. The definitions serve contracts alone.
-use Prim.Native.Nat.{ℕ, _+_, _≤_}
+use Prim.Native.Nat.{ℕ, _+_, _≤_, _<_}
 use mathlib.Core.List.{List}
 use lib.ListN.{length}
 use Rattle.settings.specs.declared.Settings.{Settings}
@@ -8,6 +8,11 @@ use Rattle.layout.specs.FramedTier.{FramedTier}
 use Rattle.entries.specs.Stored.{chunksFor}
 use Rattle.search.specs.Rules.{SomeEmpty}
 use Rattle.search.specs.Asking.{Seeks, Lacks}
+use Rattle.lists.specs.Quantify.{Every}
+use Rattle.layout.specs.Tiers.{IsTier}
+use Rattle.layout.specs.Frame.{Framed}
+use Rattle.chains.specs.Chains.{chain}
+use Rattle.placement.specs.declared.Old.{Old}
 
 module _ (z : Shape) (img : List ℕ) where
   open Shape z using (settings)
@@ -34,3 +39,29 @@ module _ (z : Shape) (img : List ℕ) where
   pub record CanPlace (t c : ℕ) (key value : List ℕ) : Type 0 where
     pub write : CanWrite t c key value
     pub takes : TakesKey t key
+
+  -- ---- the scan for a run of n chunks, where the old entry counts as removed
+
+  -- the old entry ends within a tier's chunks
+  abbrev pub OldEnds : Old → Type 0
+  OldEnds old = old .chunk + old .chunks ≤ chunks
+
+  -- chunk i of tier t
+  pub record CanTest (old : Old) (t i : ℕ) : Type 0 where
+    pub tier : FramedTier z img t
+    pub chunkIn : i < chunks
+    pub oldEnds : OldEnds old
+
+  -- in tier t
+  pub record CanScan (old : Old) (t n : ℕ) : Type 0 where
+    pub tier : FramedTier z img t
+    pub some : 0 < n
+    pub oldEnds : OldEnds old
+
+  -- in segment s's chain
+  pub record CanScanChain (old : Old) (s n : ℕ) : Type 0 where
+    pub framed : Framed z (length img)
+    pub segmentIn : s < z .settings .segments
+    pub tiersOf : Every (chain z img s) (IsTier z)
+    pub some : 0 < n
+    pub oldEnds : OldEnds old

@@ -3,17 +3,14 @@ use super::Old;
 use super::Run;
 use layout::Shape;
 ghost use mathlib.Core.Path.{_≡_};
-ghost use Prim.Native.Nat.{_+_, _<_, _≤_};
-ghost use lib.ListN.{length};
-ghost use Rattle.lists.specs.Quantify.{Every};
-ghost use Rattle.layout.specs.Tiers.{IsTier};
-ghost use Rattle.layout.specs.Frame.{Framed};
+ghost use Rattle.layout.specs.FramedTier.{FramedTier};
 ghost use Rattle.chains.specs.Chains.{chain};
+ghost use Rattle.placement.specs.Asking.{CanTest, CanScan, CanScanChain};
 ghost use Rattle.placement.specs.Runs.{fromLowest, lowestRun, runIn, firstRun, fullBut, clearBut};
 
 // Whether chunk i of tier t is clear.
 fn is_clear(z: Shape, img: &[u8], old: Old, t: usize, i: usize) -> bool
-    requires { ⌜ Framed z (length (now img)) × IsTier z t × (i < z .settings .chunks) × (old .chunk + old .chunks ≤ z .settings .chunks) ⌝ }
+    requires { ⌜ CanTest z (now img) old t i ⌝ }
     ensures { λ r. ⌜ r ≡ clearBut z (now (img .entry)) old t i ⌝ }
 {
     if t == old.tier {
@@ -28,7 +25,7 @@ fn is_clear(z: Shape, img: &[u8], old: Old, t: usize, i: usize) -> bool
 
 // How many slots of tier t are full without the old entry.
 fn full_but(z: Shape, img: &[u8], old: Old, t: usize) -> usize
-    requires { ⌜ Framed z (length (now img)) × IsTier z t ⌝ }
+    requires { ⌜ FramedTier z (now img) t ⌝ }
     ensures { λ r. ⌜ r ≡ fullBut z (now (img .entry)) old t ⌝ }
 {
     let full = counters::full_slots(z, img, t);
@@ -43,7 +40,7 @@ fn full_but(z: Shape, img: &[u8], old: Old, t: usize) -> usize
 
 // The lowest run of n clear chunks in tier t; `have` clear chunks end before chunk i.
 fn lowest_run(z: Shape, img: &[u8], old: Old, t: usize, n: usize) -> Run
-    requires { ⌜ Framed z (length (now img)) × IsTier z t × (0 < n) × (old .chunk + old .chunks ≤ z .settings .chunks) ⌝ }
+    requires { ⌜ CanScan z (now img) old t n ⌝ }
     ensures { λ r. ⌜ r ≡ fromLowest t (lowestRun z (fullBut z (now (img .entry)) old) (clearBut z (now (img .entry)) old) t n) ⌝ }
 {
     let mut have = 0;
@@ -65,7 +62,7 @@ fn lowest_run(z: Shape, img: &[u8], old: Old, t: usize, n: usize) -> Run
 
 // The run in tier t, unless too many of its slots are full.
 fn run_in(z: Shape, img: &[u8], old: Old, t: usize, n: usize) -> Run
-    requires { ⌜ Framed z (length (now img)) × IsTier z t × (0 < n) × (old .chunk + old .chunks ≤ z .settings .chunks) ⌝ }
+    requires { ⌜ CanScan z (now img) old t n ⌝ }
     ensures { λ r. ⌜ r ≡ runIn z (fullBut z (now (img .entry)) old) (clearBut z (now (img .entry)) old) t n ⌝ }
 {
     let full = full_but(z, img, old, t);
@@ -77,7 +74,7 @@ fn run_in(z: Shape, img: &[u8], old: Old, t: usize, n: usize) -> Run
 
 // Of the tiers of segment s's chain, the first that takes an entry of n chunks.
 pub fn first_run(z: Shape, img: &[u8], old: Old, s: usize, n: usize) -> Run
-    requires { ⌜ Framed z (length (now img)) × (s < z .settings .segments) × Every (chain z (now img) s) (IsTier z) × (0 < n) × (old .chunk + old .chunks ≤ z .settings .chunks) ⌝ }
+    requires { ⌜ CanScanChain z (now img) old s n ⌝ }
     ensures { λ r. ⌜ r ≡ firstRun z (fullBut z (now (img .entry)) old) (clearBut z (now (img .entry)) old) (chain z (now (img .entry)) s) n ⌝ }
 {
     let most = layout::tier_count(z);

@@ -18,7 +18,8 @@ module _ {M : Type 0} (𝓣 : Table M) where
   open Table 𝓣 using (size, start, get, put)
 
   -- the test as one comparison
-  pub stays-is : (m : M) (h i : ℕ) → h < size → i < size → start (get m i) < size → stays 𝓣 m h i ≡ ltb (dist size (start (get m i)) i) (dist size h i)
+  pub stays-is : (m : M) (h i : ℕ) → h < size → i < size → start (get m i) < size
+      → stays 𝓣 m h i ≡ ltb (dist size (start (get m i)) i) (dist size h i)
   unfolding stays
   stays-is m h i hh hi hx =
       ⊎-elim

@@ -100,7 +100,8 @@ module _ (C : ℕ) where
   dist-inj ha hb hc e = dist-zero hb hc (omega (arith, dist-sub ha hb hc (omega arith)))
 
   -- b is on the stretch from a to c, and i on the one from b to c: then i is on the one from a to c
-  pub dist-through : {a b c i : ℕ} → a < C → b < C → c < C → i < C → dist C a b ≤ dist C a c → dist C b i ≤ dist C b c → dist C a i ≤ dist C a c
+  pub dist-through : {a b c i : ℕ} → a < C → b < C → c < C → i < C → dist C a b ≤ dist C a c → dist C b i ≤ dist C b c
+      → dist C a i ≤ dist C a c
   dist-through ha hb hc hi l r =
       let s : _ = dist-sub ha hb hc l in
       let t : _ = dist-lt ha hc in

@@ -84,7 +84,8 @@ module _ {M : Type 0} (𝓣 : Table M) (law : Lawful 𝓣) where
             s .near j i hj (s .i-lt) jh i-h full (dist-through size (start-lt _) (s .h-lt) hj (s .i-lt) on-h (s .ahead j hj jh full on-h)) z
 
   -- a slot that stays is passed
-  pub passes : {n : ℕ} {m : M} {h i : ℕ} → Shifting (suc n) m h i → get m i ≢ 0 → dist size (start (get m i)) i < dist size h i → Shifting n m h (next size i)
+  pub passes : {n : ℕ} {m : M} {h i : ℕ} → Shifting (suc n) m h i → get m i ≢ 0 → dist size (start (get m i)) i < dist size h i
+      → Shifting n m h (next size i)
   passes {n} {m} {h} {i} s full st =
       record {
         ok = s .ok;
@@ -126,7 +127,9 @@ module _ {M : Type 0} (𝓣 : Table M) (law : Lawful 𝓣) where
         h-lt = s .i-lt;
         i-lt = next-lt size (s .i-lt);
         off = omega (arith, one);
-        near = λ j k hj hk ji ki fj on. ⊎-elim (λ (kh : k ≡ h). rw (kh, at-h) full) (λ kh. rw (at-other k hk kh) (near j k hj hk kh fj on)) (same-or k h);
+        near =
+            λ j k hj hk ji ki fj on.
+            ⊎-elim (λ (kh : k ≡ h). rw (kh, at-h) full) (λ kh. rw (at-other k hk kh) (near j k hj hk kh fj on)) (same-or k h);
         ahead = λ j hj ji fj on. omega (arith, one, dist-apart size (s .i-lt) hj (λ q. ji (sym q)));
         e = s .e;
         e-empty = record { lt = s .e-empty .lt; free = at-other (s .e) (s .e-empty .lt) e-h ∙ s .e-empty .free };

@@ -58,7 +58,8 @@ module _ {M : Type 0} (𝓣 : Table M) (f : ℕ → ℕ) (m : M) where
       (same-or k n))
       (same-or j n)
 
-  pub slotTotal-once : (n : ℕ) → ((x : ℕ) → f x ≤ 1) → ((j k : ℕ) → j < n → k < n → 0 < f (get m j) → 0 < f (get m k) → j ≡ k) → slotTotal 𝓣 f m n ≤ 1
+  pub slotTotal-once : (n : ℕ) → ((x : ℕ) → f x ≤ 1) → ((j k : ℕ) → j < n → k < n → 0 < f (get m j) → 0 < f (get m k) → j ≡ k)
+      → slotTotal 𝓣 f m n ≤ 1
   unfolding slotTotal
   slotTotal-once zero small one = omega arith
   slotTotal-once (suc n) small one =
@@ -82,7 +83,8 @@ module _ {M : Type 0} (𝓣 : Table M) (law : Lawful 𝓣) where
   slotTotal-out f m j v zero ok h l = refl
   slotTotal-out f m j v (suc n) ok h l = rw (other m j v n ok h (omega arith) (omega arith), slotTotal-out f m j v n ok h (omega arith))
 
-  slotTotal-in : (f : ℕ → ℕ) (m : M) (j v n : ℕ) → Ok m → Fit v → n ≤ size → j < n → slotTotal 𝓣 f (put m j v) n + f (get m j) ≡ slotTotal 𝓣 f m n + f v
+  slotTotal-in : (f : ℕ → ℕ) (m : M) (j v n : ℕ) → Ok m → Fit v → n ≤ size → j < n
+      → slotTotal 𝓣 f (put m j v) n + f (get m j) ≡ slotTotal 𝓣 f m n + f v
   unfolding slotTotal
   slotTotal-in f m j v zero ok fit l h = omega arith
   slotTotal-in f m j v (suc n) ok fit l h =
@@ -92,5 +94,6 @@ module _ {M : Type 0} (𝓣 : Table M) (law : Lawful 𝓣) where
       (same-or n j)
 
   -- a put adds what the new number adds, and takes what the old one added
-  pub slotTotal-put : (f : ℕ → ℕ) (m : M) (j v : ℕ) → Ok m → Fit v → j < size → slotTotal 𝓣 f (put m j v) size + f (get m j) ≡ slotTotal 𝓣 f m size + f v
+  pub slotTotal-put : (f : ℕ → ℕ) (m : M) (j v : ℕ) → Ok m → Fit v → j < size
+      → slotTotal 𝓣 f (put m j v) size + f (get m j) ≡ slotTotal 𝓣 f m size + f v
   slotTotal-put f m j v ok fit h = slotTotal-in f m j v size ok fit (omega arith) h

@@ -73,7 +73,8 @@ module _ {z : Shape} {img : List ℕ} {s t j c n : ℕ} (w : Removable z img s t
   old-good : Good (slotsOf z t) old
   old-good i k hi hk fi on e =
       let same : slotAt z old t i ≡ slotAt z img t i = slot-kept i hi in
-      good z img (w .image) t (w .tierIs) (w .fits .slotsFit .someEmpty) (w .fits .reached) i k hi hk (rw same at fi) (rw same at on) (sym (slot-kept k hk) ∙ e)
+      good z img (w .image) t (w .tierIs) (w .fits .slotsFit .someEmpty) (w .fits .reached) i k hi hk (rw same at fi) (rw same at on)
+      (sym (slot-kept k hk) ∙ e)
 
   abbrev law : Lawful (slotsOf z t)
   law = slots-lawful (w .image .framed) t (w .tierIs)
@@ -112,7 +113,8 @@ module _ {z : Shape} {img : List ℕ} {s t j c n : ℕ} (w : Removable z img s t
       let v : ℕ = slotAt z new t k in
       let there : 0 < slotTotal (slotsOf z t) (is-it v) new slots =
       omega (arith, slotTotal-has (slotsOf z t) (is-it v) new slots k hk, is-it-same v v fk refl) in
-      let r : (i : ℕ) × (i < slots) × (0 < is-it v (slotAt z img t i)) = slotTotal-found (slotsOf z t) (is-it v) img slots (omega (arith, sums (one-at v))) in
+      let r : (i : ℕ) × (i < slots) × (0 < is-it v (slotAt z img t i)) =
+      slotTotal-found (slotsOf z t) (is-it v) img slots (omega (arith, sums (one-at v))) in
       (r .0, r .1, sym (is-it-pos v (slotAt z img t (r .0)) (r .2)))
 
   -- a number that stood in one slot only stands in one slot only

@@ -95,14 +95,16 @@ module _ {z : Shape} {img : List ℕ} {s t j c n : ℕ} (w : Removable z img s t
     again-own i k hi hk fi fk e =
         let a : Stood i = was i hi fi in
         let b : Stood k = was k hk fk in
-        let one : (x y : ℕ) → x < slots → y < slots → slotAt z img t x ≢ 0 → slotAt z img t y ≢ 0 → keyAt z img t x ≡ keyAt z img t y → x ≡ y =
+        let one : (x y : ℕ) → x < slots → y < slots → slotAt z img t x ≢ 0 → slotAt z img t y ≢ 0 → keyAt z img t x ≡ keyAt z img t y
+        → x ≡ y =
         λ x y hx hy fx fy k. once t mt x hx fx t mt y hy fy k .1 in
         let p : a .from ≡ b .from = one (a .from) (b .from) (a .lt) (b .lt) (a .full) (b .full) (sym (a .moved .key) ∙ e ∙ b .moved .key) in
         stood-once w (slotAt z new t i) fi
         (λ x y hx hy ex ey. one x y hx hy (λ q. fi (sym ex ∙ q)) (λ q. fi (sym ey ∙ q)) (same-key z img t x y (ex ∙ sym ey)))
         i k hi hk refl (b .is ∙ ap (slotAt z img t) (sym p) ∙ sym (a .is))
 
-    again-apart : (u : ℕ) → List·Memᴰ u (chain z img s) → u ≢ t → (i k : ℕ) → i < slots → k < slots → slotAt z new t i ≢ 0 → slotAt z img u k ≢ 0
+    again-apart : (u : ℕ) → List·Memᴰ u (chain z img s) → u ≢ t → (i k : ℕ) → i < slots → k < slots → slotAt z new t i ≢ 0
+        → slotAt z img u k ≢ 0
         → keyAt z new t i ≢ keyAt z img u k
     again-apart u mu ne i k hi hk fi fk e =
         let a : Stood i = was i hi fi in

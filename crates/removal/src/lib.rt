@@ -18,7 +18,8 @@ ghost use Rattle.removal.specs.Removal.{removeAt};
 // Whether a slot i that holds v stays: its start lies on the stretch after the hole h up to and including i.
 fn stays(st: Settings, v: u64, h: usize, i: usize) -> bool
     requires { ⌜ Valid st × (h < st .slots) × (i < st .slots) ⌝ }
-    ensures { λ r. ⌜ Decides r ((0 < dist (st .slots) h (start st (slotKey st v))) × (dist (st .slots) h (start st (slotKey st v)) ≤ dist (st .slots) h i)) ⌝ }
+    ensures { λ r. ⌜ Decides r ((0 < dist (st .slots) h (start st (slotKey st v))) ×
+        (dist (st .slots) h (start st (slotKey st v)) ≤ dist (st .slots) h i)) ⌝ }
 {
     let from = entries::keys::start(st, entries::keys::slot_key(st, v));
     let d = probe::distance(st.slots, h, from);

@@ -83,7 +83,8 @@ module _ (z : Shape) (img key : List ℕ) (t : ℕ) where
     pub slot : ℕ
     pub searching : Searching z img key most u tier slot k
 
-  pub reaching-starts : (most u s : ℕ) → most ≡ tiers z → u ≡ s + 1 → s ≡ segmentOf settings key → s < segments → ChainTiers z img → Reaching most u 0
+  pub reaching-starts : (most u s : ℕ) → most ≡ tiers z → u ≡ s + 1 → s ≡ segmentOf settings key → s < segments → ChainTiers z img
+      → Reaching most u 0
   reaching-starts most u s em eu es hs ts = record { tier = 0; slot = 0; searching = search-starts z img key most u s em eu es hs ts }
 
   module _ {most u k : ℕ} (w : Reaching most u k) where

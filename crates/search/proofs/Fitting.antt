@@ -42,7 +42,8 @@ pub record Held (z : Shape) (img : List ℕ) (t j v c : ℕ) (e : Entry) : Type 
   pub first : c ≡ slotChunk (z .settings) v
   pub whole : stored z img t c ≡ Whole e
 
-pub held : {z : Shape} {img : List ℕ} {t j v c : ℕ} {e : Entry} {r : Stored} → v ≡ slotAt z img t j → c ≡ slotChunk (z .settings) v → r ≡ stored z img t c
+pub held : {z : Shape} {img : List ℕ} {t j v c : ℕ} {e : Entry} {r : Stored} → v ≡ slotAt z img t j → c ≡ slotChunk (z .settings) v
+    → r ≡ stored z img t c
     → r ≡ Whole e → Held z img t j v c e
 held ev ec er w = record { holds = ev; first = ec; whole = sym er ∙ w }
 

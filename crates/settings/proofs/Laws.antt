@@ -95,7 +95,9 @@ pub doubling-turns : {n p : ℕ} → Doubling n p → n ≤ 4096 → p < n → D
 doubling-turns {n} {p} d small h =
     record {
       k = suc (d .k);
-      small = ⊎-elim (λ (a : d .k < 13). omega arith) (λ (a : 13 ≤ d .k). absurd (omega (arith, pow-mono {i = 13} {j = d .k} a, d .is))) (lt-or (d .k) 13);
+      small =
+          ⊎-elim (λ (a : d .k < 13). omega arith) (λ (a : 13 ≤ d .k). absurd (omega (arith, pow-mono {i = 13} {j = d .k} a, d .is)))
+          (lt-or (d .k) 13);
       is = rw (pow-suc, d .is);
       below = λ j a. ⊎-elim (λ (e : j ≡ d .k). rw (e, ← d .is) h) (λ e. d .below j (omega arith)) (same-or j (d .k));
     }

@@ -118,7 +118,8 @@ module _ (z : Shape) (img img′ : List ℕ) (u : ℕ) where
       stored-ext z img′ img u c
       (λ h. within b (chunkAt z u c) ((chunks - c) * chunkSize) (omega (arith, chunk-at z u c)) (omega (arith, chunk-rest z u c h)))
 
-  pub entry-moves : SameBytes z img img′ u → (s j k : ℕ) → slotAt z img′ u k ≡ slotAt z img u j → EntryFits z img s u j → Moved z img img′ s u j k
+  pub entry-moves : SameBytes z img img′ u → (s j k : ℕ) → slotAt z img′ u k ≡ slotAt z img u j → EntryFits z img s u j
+      → Moved z img img′ s u j k
   unfolding keyAt entryAt
   entry-moves b s j k e f =
       let v : ℕ = slotAt z img u j in
@@ -128,8 +129,10 @@ module _ (z : Shape) (img img′ : List ℕ) (u : ℕ) where
       let i : Inside z u (entryOf r) = stored-inside z img u (slotChunk settings v) r refl (f .whole) (f .rangeEnds) in
       let key : keyOf img′ (entryOf r) ≡ keyOf img (entryOf r) = within b (entryOf r .keyAt) (entryOf r .keyLength) (i .keyFrom) (i .keyTo) in
       let value : valueOf img′ (entryOf r) ≡ valueOf img (entryOf r) = within b (entryOf r .valueAt) (entryOf r .valueLength) (i .valueFrom) (i .valueTo) in
-      let key′ : keyOf img′ (entryFor z img′ u (slotAt z img′ u k)) ≡ keyOf img (entryOf r) = ap (λ (x : Stored). keyOf img′ (entryOf x)) st ∙ key in
-      let value′ : valueOf img′ (entryFor z img′ u (slotAt z img′ u k)) ≡ valueOf img (entryOf r) = ap (λ (x : Stored). valueOf img′ (entryOf x)) st ∙ value in
+      let key′ : keyOf img′ (entryFor z img′ u (slotAt z img′ u k)) ≡ keyOf img (entryOf r) =
+      ap (λ (x : Stored). keyOf img′ (entryOf x)) st ∙ key in
+      let value′ : valueOf img′ (entryFor z img′ u (slotAt z img′ u k)) ≡ valueOf img (entryOf r) =
+      ap (λ (x : Stored). valueOf img′ (entryOf x)) st ∙ value in
       let chunk : slotChunk settings (slotAt z img′ u k) ≡ slotChunk settings v = ap (slotChunk settings) e in
       let many : chunksFor settings (entryFor z img′ u (slotAt z img′ u k) .keyLength) (entryFor z img′ u (slotAt z img′ u k) .valueLength)
       ≡ chunksFor settings (entryOf r .keyLength) (entryOf r .valueLength) =
@@ -194,7 +197,8 @@ module _ (z : Shape) (img img′ : List ℕ) (u : ℕ) where
           reached =
               λ j h ne k hk d e.
               f .reached j h (full-before j h ne) k hk
-              (subst (λ (v : ℕ). dist slots (start settings (slotKey settings v)) k ≤ dist slots (start settings (slotKey settings v)) j) (same .slots j h) d)
+              (subst (λ (v : ℕ). dist slots (start settings (slotKey settings v)) k ≤ dist slots (start settings (slotKey settings v)) j)
+              (same .slots j h) d)
               (sym (same .slots k hk) ∙ e);
         }
 
@@ -202,7 +206,8 @@ module _ (z : Shape) (img img′ : List ℕ) (u : ℕ) where
     unfolding lowestClear
     same-lowest =
         ap (λ (o : Option ℕ). orElse o chunks)
-        (same-first (clear z img′ u) (clear z img u) (below chunks) (λ i m. ap (λ (v : ℕ). eqb v 0) (same .marks i (omega (arith, span-in 0 chunks i m)))))
+        (same-first (clear z img′ u) (clear z img u) (below chunks)
+        (λ i m. ap (λ (v : ℕ). eqb v 0) (same .marks i (omega (arith, span-in 0 chunks i m)))))
 
     pub same-marks : (s : ℕ) → MarksFit z img s u → MarksFit z img′ s u
     same-marks s f i h = ap (λ (l : List Live). howMany l (covers i)) (same-liveIn s) ∙ f i h ∙ sym (same .marks i h)

@@ -69,7 +69,8 @@ module _ (z : Shape) (img : List ℕ) where
       omega (arith, marked-more z img t n, howMany-ltb-more n (chunksOfAll es), covered-by n es, f n (omega arith), marked-chunks t es f n (omega arith)) in
       rw add-one at e
 
-  marked-tier : (t : ℕ) (es : List Live) → Below chunks (λ i. howMany es (covers i) ≡ mark z img t i) → Every es (λ e. e .chunk + e .chunks ≤ chunks)
+  marked-tier : (t : ℕ) (es : List Live) → Below chunks (λ i. howMany es (covers i) ≡ mark z img t i)
+      → Every es (λ e. e .chunk + e .chunks ≤ chunks)
       → markedIn z img t ≡ total es (λ e. e .chunks)
   marked-tier t es f g =
       sym (marked-all z img t) ∙ marked-chunks t es f chunks (omega arith)
@@ -104,7 +105,8 @@ module _ (z : Shape) (img : List ℕ) where
   abbrev needs : Pair → ℕ
   needs p = chunksFor settings (length (p .key)) (length (p .value))
 
-  entry-needs : (s t j : ℕ) → Image z img → IsTier z t → EntryFits z img s t j → liveAt z img s t j .chunks ≡ needs (pairFor z img t (slotAt z img t j))
+  entry-needs : (s t j : ℕ) → Image z img → IsTier z t → EntryFits z img s t j
+      → liveAt z img s t j .chunks ≡ needs (pairFor z img t (slotAt z img t j))
   unfolding liveAt entryAt
   entry-needs s t j im it f = let q : _ = entry-long s t j im it f in rw (q .0, q .1)
 
@@ -126,5 +128,7 @@ module _ (z : Shape) (img : List ℕ) where
   unfolding markedChunks
   marked-sum sound =
       total-same (chained z img) (weigh z img needs) (markedIn z img)
-      (λ t m. let c : (s : ℕ) × (s < segments) × List·Memᴰ t (chain z img s) = chained-in z img (sound .fits .chains) t m in tier-needs (c .0) t sound (c .1) (c .2))
+      (λ t m.
+      let c : (s : ℕ) × (s < segments) × List·Memᴰ t (chain z img s) = chained-in z img (sound .fits .chains) t m in
+      tier-needs (c .0) t sound (c .1) (c .2))
       ∙ sym (pairs-total z img needs)

@@ -63,7 +63,10 @@ module _ (z : Shape) (img : List ℕ) (s t : ℕ) (hs : s < z .settings .segment
       record {
         fits = same-tier-fits z img img′ t same s fits;
         marks = same-marks z img img′ t same s (sound .fits .chunks .marks s hs t m);
-        own = λ j k hj hk fj fk e. sound .fits .entries .keysOnce s hs t m j hj (full j hj fj) t m k hk (full k hk fk) (sym (key j hj fj) ∙ e ∙ key k hk fk) .1;
+        own =
+            λ j k hj hk fj fk e.
+            sound .fits .entries .keysOnce s hs t m j hj (full j hj fj) t m k hk (full k hk fk)
+            (sym (key j hj fj) ∙ e ∙ key k hk fk) .1;
         apart = λ u mu ne j k hj hk fj fk e. ne (sym (sound .fits .entries .keysOnce s hs t m j hj (full j hj fj) u mu k hk fk (sym (key j hj fj) ∙ e) .0));
       }
 

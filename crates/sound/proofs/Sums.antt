@@ -50,7 +50,8 @@ module _ {M : Type 0} (𝓣 : Table M) (m : M) where
   none-full g = refl
 
   -- over the full ones of the first n slots
-  full-slots : (g f : ℕ → ℕ) (n : ℕ) → Below n (λ j. get m j ≢ 0 → g j ≡ f (get m j)) → total (those (below n) full) g ≡ slotTotal 𝓣 (ifFull f) m n
+  full-slots : (g f : ℕ → ℕ) (n : ℕ) → Below n (λ j. get m j ≢ 0 → g j ≡ f (get m j))
+      → total (those (below n) full) g ≡ slotTotal 𝓣 (ifFull f) m n
   unfolding slotTotal
   full-slots g f zero e = none-full g
   full-slots g f (suc n) e =
@@ -65,7 +66,8 @@ module _ {M : Type 0} (𝓣 : Table M) (m : M) where
   unfolding slotTotal
   slots-same m′ f f′ zero e g = refl
   slots-same m′ f f′ (suc n) e g =
-      let rest : slotTotal 𝓣 (ifFull f′) m′ n ≡ slotTotal 𝓣 (ifFull f) m n = slots-same m′ f f′ n (λ j l. e j (omega arith)) (λ j l. g j (omega arith)) in
+      let rest : slotTotal 𝓣 (ifFull f′) m′ n ≡ slotTotal 𝓣 (ifFull f) m n =
+      slots-same m′ f f′ n (λ j l. e j (omega arith)) (λ j l. g j (omega arith)) in
       let here : ifFull f′ (get m′ n) ≡ ifFull f′ (get m n) = ap (ifFull f′) (e n (omega arith)) in
       ⊎-elim
       (λ (q : get m n ≡ 0). omega (arith, empty-is f (get m n) q, empty-is f′ (get m n) q))
@@ -104,7 +106,8 @@ module _ (z : Shape) (img : List ℕ) where
       sym (total-flatMap (chain z img) ss W)))
 
 -- two tables that agree slot by slot have the same sums, of what is the same for each number that a slot holds
-pub table-same : (z : Shape) (t : ℕ) (img img′ : List ℕ) (f f′ : ℕ → ℕ) → Below (z .settings .slots) (λ j. slotAt z img′ t j ≡ slotAt z img t j)
+pub table-same : (z : Shape) (t : ℕ) (img img′ : List ℕ) (f f′ : ℕ → ℕ)
+    → Below (z .settings .slots) (λ j. slotAt z img′ t j ≡ slotAt z img t j)
     → Below (z .settings .slots) (λ j. slotAt z img t j ≢ 0 → f′ (slotAt z img t j) ≡ f (slotAt z img t j))
     → slotTotal (slotsOf z t) (ifFull f′) img′ (z .settings .slots) ≡ slotTotal (slotsOf z t) (ifFull f) img (z .settings .slots)
 table-same z t img img′ f f′ e g = slots-same (slotsOf z t) img img′ f f′ (z .settings .slots) e g

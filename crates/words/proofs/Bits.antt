@@ -179,7 +179,8 @@ bytes-putBits l at i zero b h hb = h
 bytes-putBits l at i (suc n) b h hb = bytes-putBit (putBits l at i n b) at (i + n) b (bytes-putBits l at i n b h hb) hb
 
 -- a byte that holds none of the range
-pub getD-putBits-out : (l : List ℕ) (at i n b j : ℕ) → (8 * j + 7 < 8 * at + i) ⊎ (8 * at + i + n ≤ 8 * j) → getD (putBits l at i n b) j 0 ≡ getD l j 0
+pub getD-putBits-out : (l : List ℕ) (at i n b j : ℕ) → (8 * j + 7 < 8 * at + i) ⊎ (8 * at + i + n ≤ 8 * j)
+    → getD (putBits l at i n b) j 0 ≡ getD l j 0
 unfolding putBits
 getD-putBits-out l at i zero b j o = refl
 getD-putBits-out l at i (suc n) b j o =
@@ -194,7 +195,8 @@ bit-putBits-out l at i (suc n) b j hb o =
     bit-putBit-other (putBits l at i n b) at (i + n) b j hb (⊎-elim (λ (h : j < i). omega arith) (λ (h : i + suc n ≤ j). omega arith) o)
     ∙ bit-putBits-out l at i n b j hb (⊎-elim (λ h. inl h) (λ (h : i + suc n ≤ j). inr (omega arith)) o)
 
-pub bit-putBits-in : (l : List ℕ) (at i n b j : ℕ) → 8 * at + i + n ≤ 8 * length l → b < 2 → i ≤ j → j < i + n → bit (putBits l at i n b) at j ≡ b
+pub bit-putBits-in : (l : List ℕ) (at i n b j : ℕ) → 8 * at + i + n ≤ 8 * length l → b < 2 → i ≤ j → j < i + n
+    → bit (putBits l at i n b) at j ≡ b
 unfolding putBits
 bit-putBits-in l at i zero b j h hb lo hi = absurd (omega arith)
 bit-putBits-in l at i (suc n) b j h hb lo hi =
@@ -230,7 +232,8 @@ pub record PuttingBits (l₀ : List ℕ) (at i n b : ℕ) (l : List ℕ) (k : �
 pub putBits-starts : (l : List ℕ) (at i n b : ℕ) → PuttingBits l at i n b l 0
 putBits-starts l at i n b = record { low = omega arith; long = refl; is = sym (putBits-none l at i b) }
 
-pub putBits-turns : {l₀ : List ℕ} {at i n b : ℕ} {l : List ℕ} {k : ℕ} {l′ : List ℕ} → PuttingBits l₀ at i n b l k → k < n → l′ ≡ putBit l at (i + k) b
+pub putBits-turns : {l₀ : List ℕ} {at i n b : ℕ} {l : List ℕ} {k : ℕ} {l′ : List ℕ} → PuttingBits l₀ at i n b l k → k < n
+    → l′ ≡ putBit l at (i + k) b
     → PuttingBits l₀ at i n b l′ (k + 1)
 putBits-turns {l₀} {at} {i} {n} {b} {l} {k} p h e =
     record { low = omega arith; long = ap length e ∙ length-putBit l at (i + k) b ∙ p .long; is = cc (putBits-more l₀ at i k b, p .is) }

@@ -20,7 +20,8 @@ getD-sets-out l at (b ∷ bs) i o =
     getD-sets-out (set l at b) (suc at) bs i (⊎-elim (λ (h : i < at). inl (omega arith)) (λ (h : at + length (b ∷ bs) ≤ i). inr (omega arith)) o)
     ∙ getD-set-other l at i b 0 (⊎-elim (λ (h : i < at). omega arith) (λ (h : at + length (b ∷ bs) ≤ i). omega arith) o)
 
-pub getD-sets-in : (l : List ℕ) (at : ℕ) (bs : List ℕ) (i : ℕ) → at + length bs ≤ length l → i < length bs → getD (sets l at bs) (at + i) 0 ≡ getD bs i 0
+pub getD-sets-in : (l : List ℕ) (at : ℕ) (bs : List ℕ) (i : ℕ) → at + length bs ≤ length l → i < length bs
+    → getD (sets l at bs) (at + i) 0 ≡ getD bs i 0
 getD-sets-in l at [] i h k = absurd (omega arith)
 getD-sets-in l at (b ∷ bs) zero h k =
     rw add-zero (getD-sets-out (set l at b) (suc at) bs at (inl (omega arith)) ∙ getD-set-same l at b 0 (omega arith))
@@ -61,7 +62,8 @@ length-cut l at n h = simp (length-take, length-drop) (omega arith)
 pub getD-cut : (l : List ℕ) (at n i : ℕ) → i < n → getD (cut l at n) i 0 ≡ getD l (at + i) 0
 getD-cut l at n i h = getD-take n (drop at l) i 0 h ∙ getD-drop at l i 0
 
-pub cut-ext : (l l′ : List ℕ) (at n : ℕ) → length l ≡ length l′ → ((i : ℕ) → i < n → getD l (at + i) 0 ≡ getD l′ (at + i) 0) → cut l at n ≡ cut l′ at n
+pub cut-ext : (l l′ : List ℕ) (at n : ℕ) → length l ≡ length l′ → ((i : ℕ) → i < n → getD l (at + i) 0 ≡ getD l′ (at + i) 0)
+    → cut l at n ≡ cut l′ at n
 cut-ext l l′ at n e h =
     ext-getD 0 _ _
     (simp (length-take, length-drop, e))

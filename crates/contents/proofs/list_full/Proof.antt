@@ -43,7 +43,10 @@ slice-write-list c =
 slot-requires : tie.Need-slot-requires Inv-loop μ-loop
 slot-requires c κs =
     let start = c .before .before .before .before .before in
-    record { tier = record { framed = start .pre .tier .framed; tierIn = start .pre .tier .tierIn }; slotIn = omega (arith, c .before .loop .inv .1, c .loop-test .taken) }
+    record {
+      tier = record { framed = start .pre .tier .framed; tierIn = start .pre .tier .tierIn };
+      slotIn = omega (arith, c .before .loop .inv .1, c .loop-test .taken);
+    }
 
 add-n : tie.Need-add-n Inv-loop μ-loop
 add-n c =

@@ -6,7 +6,9 @@ use Rattle.edit.proofs.extend.Statement.{statement}
 use Rattle.edit.proofs.extend.Tie as tie
 
 take-out-requires : tie.Need-take-out-requires
-take-out-requires c κs = let asks = c .before .before .before .before .pre in (asks .framed, asks .oldFits)
+take-out-requires c κs =
+    let start = c .before .before .before .before in
+    let asks = start .pre in (asks .framed, asks .oldFits)
 
 join-requires : tie.Need-join-requires
 join-requires c κs =

@@ -6,7 +6,9 @@ use Rattle.edit.proofs.replace.Statement.{statement}
 use Rattle.edit.proofs.replace.Tie as tie
 
 take-out-requires : tie.Need-take-out-requires
-take-out-requires c κs = let asks = c .before .before .before .before .pre in (asks .framed, asks .oldFits)
+take-out-requires c κs =
+    let start = c .before .before .before .before in
+    let asks = start .pre in (asks .framed, asks .oldFits)
 
 place-at-requires : tie.Need-place-at-requires
 place-at-requires c κs =
@@ -19,7 +21,11 @@ settle-requires c κs =
     let p = c .before .before .before in let place-at = p .place-at in
     let p = p .before .before .before .before in let take-out = p .take-out in
     let asks = p .before .before .before .before .before .pre in
-    record { framed = framed-again (place-at .kept .1 .0 ∙ take-out .kept .1 .0) (asks .framed); tierIn = asks .places .write .tier .tierIn; otherIn = asks .oldFits .tierIn }
+    record {
+      framed = framed-again (place-at .kept .1 .0 ∙ take-out .kept .1 .0) (asks .framed);
+      tierIn = asks .places .write .tier .tierIn;
+      otherIn = asks .oldFits .tierIn;
+    }
 
 same-length : tie.Need-same-length
 same-length c = search needs

@@ -22,14 +22,16 @@ first-run-requires c κs =
     let p = c .before in let old-entry = p .old-entry in
     let p = p .before .before in let segment-of-hash = p .segment-of-hash in
     let p = p .before .before in let chunks-for = p .chunks-for in
-    let start = p .before .before .before .before in (
-      sound-framed (start .args .z) (start .args .img .now) (start .pre .sound),
-      segment-of-hash .ensures .1,
-      sound-tiers (start .args .z) (start .args .img .now) (start .pre .sound) (segment-of-hash .result) (segment-of-hash .ensures .1),
-      some-chunks (start .pre) (chunks-for .result) (chunks-for .ensures),
-      old-fits (start .args .z) (start .args .img .now) (start .pre .sound) (start .args .key .now) (old-entry .result)
-          (old-entry .ensures) .rangeEnds,
-    )
+    let start = p .before .before .before .before in
+    record {
+      framed = sound-framed (start .args .z) (start .args .img .now) (start .pre .sound);
+      segmentIn = segment-of-hash .ensures .1;
+      tiersOf = sound-tiers (start .args .z) (start .args .img .now) (start .pre .sound) (segment-of-hash .result) (segment-of-hash .ensures .1);
+      some = some-chunks (start .pre) (chunks-for .result) (chunks-for .ensures);
+      oldEnds =
+          old-fits (start .args .z) (start .args .img .now) (start .pre .sound) (start .args .key .now) (old-entry .result)
+          (old-entry .ensures) .rangeEnds;
+    }
 
 enum-known-scan : tie.Need-enum-known-scan
 enum-known-scan c = search needs

@@ -10,7 +10,8 @@ use Rattle.removal.proofs.empty_slot.Statement.{statement}
 use Rattle.removal.proofs.empty_slot.Tie as tie
 
 abbrev Inv-loop : tie.InvT-loop
-Inv-loop z img₀ t j st cursor₀ hole₀ left₀ img cursor hole left = Emptying z t j img₀ img (cursor .slot) hole left × (cursor .slots ≡ z .settings .slots)
+Inv-loop z img₀ t j st cursor₀ hole₀ left₀ img cursor hole left =
+    Emptying z t j img₀ img (cursor .slot) hole left × (cursor .slots ≡ z .settings .slots)
 
 abbrev μ-loop : tie.MeasureT-loop
 μ-loop z img₀ t j st cursor₀ hole₀ left₀ img cursor hole left = left

@@ -73,7 +73,8 @@ returns-3 c =
     let p = p .before .before in let chunk-at = p .chunk-at in
     let start = p .before .before .before .before in
     sym (stored-value-refused (start .args .z) (start .args .img .now) (start .args .t) (start .args .c)
-    (decode-upToChunks (start .args .z) (start .args .img .now) (start .args .t) (chunk-at .ensures) (chunk-at2 .ensures) ∙ sym (read .ensures) ∙ k .given .1)
+    (decode-upToChunks (start .args .z) (start .args .img .now) (start .args .t) (chunk-at .ensures) (chunk-at2 .ensures)
+    ∙ sym (read .ensures) ∙ k .given .1)
     (decode-upToChunks (start .args .z) (start .args .img .now) (start .args .t) (chunk-at .ensures) refl
     ∙ sym (c .before .before .read2 .ensures) ∙ c .enum-told2 .given .1))
 
@@ -86,7 +87,8 @@ returns-4 c =
     let p = p .before .before in let chunk-at = p .chunk-at in
     let start = p .before .before .before .before in
     sym (stored-both-read (start .args .z) (start .args .img .now) (start .args .t) (start .args .c)
-    (decode-upToChunks (start .args .z) (start .args .img .now) (start .args .t) (chunk-at .ensures) (chunk-at2 .ensures) ∙ sym (read .ensures) ∙ k .given .1)
+    (decode-upToChunks (start .args .z) (start .args .img .now) (start .args .t) (chunk-at .ensures) (chunk-at2 .ensures)
+    ∙ sym (read .ensures) ∙ k .given .1)
     (decode-upToChunks (start .args .z) (start .args .img .now) (start .args .t) (chunk-at .ensures) refl ∙ sym (read2 .ensures) ∙ c .before .v .given .1))
 
 pub stored-spec : {M : Type 1} → statement M

@@ -41,7 +41,8 @@ returns-2 : tie.Need-returns-2
 returns-2 c =
     let p = c .before .before .before .before in let tier-at = p .tier-at in
     let s = p .before .before in
-    c .read-le8 .ensures ∙ le-place (slot-bytes (s .pre) (tier-at .ensures) (sym (slot-eight (s .pre .tier .framed .valid .slotSize) (c .before .if1 .left)))) _
+    c .read-le8 .ensures
+    ∙ le-place (slot-bytes (s .pre) (tier-at .ensures) (sym (slot-eight (s .pre .tier .framed .valid .slotSize) (c .before .if1 .left)))) _
 
 pub slot-spec : {M : Type 1} → statement M
 slot-spec = tie.close (tie.spec tier-at-requires mul-at add-at read-le4-requires read-le8-requires returns returns-2)

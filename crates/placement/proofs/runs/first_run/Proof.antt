@@ -15,10 +15,10 @@ abbrev μ-loop : tie.MeasureT-loop
 μ-loop z img old s n most t₀ k₀ t k = most - k
 
 tier-count-requires : tie.Need-tier-count-requires Inv-loop μ-loop
-tier-count-requires c κs = framed-bounded (c .before .pre .0)
+tier-count-requires c κs = framed-bounded (c .before .pre .framed)
 
 add-t : tie.Need-add-t Inv-loop μ-loop
-add-t c = omega (arith, c .before .before .pre .0 .valid .segments .1 .1)
+add-t c = omega (arith, c .before .before .pre .framed .valid .segments .1 .1)
 
 loop-holds : tie.Need-loop-holds Inv-loop μ-loop
 loop-holds c =
@@ -35,12 +35,15 @@ returns c =
 
 run-in-requires : tie.Need-run-in-requires Inv-loop μ-loop
 run-in-requires c κs =
-    let b = c .before .before .before .before .before in (
-      b .pre .0,
-      seeking-tier _ _ _ _ _ _ (c .before .before .loop .inv) (omega arith) (c .if1 .left) (b .pre .2),
-      b .pre .3,
-      b .pre .4,
-    )
+    let b = c .before .before .before .before .before in
+    record {
+      tier = record {
+        framed = b .pre .framed;
+        tierIn = seeking-tier _ _ _ _ _ _ (c .before .before .loop .inv) (omega arith) (c .if1 .left) (b .pre .tiersOf);
+      };
+      some = b .pre .some;
+      oldEnds = b .pre .oldEnds;
+    }
 
 enum-told : tie.Need-enum-told Inv-loop μ-loop
 enum-told c = search needs
@@ -60,14 +63,14 @@ returns-2 c =
 next-of-requires : tie.Need-next-of-requires Inv-loop μ-loop
 next-of-requires c κs =
     let b = c .before .before .before .before .before .before .before .before in (
-      b .pre .0,
-      seeking-tier _ _ _ _ _ _ (c .before .before .before .before .before .loop .inv) (omega arith) (c .before .before .before .if1 .left) (b .pre .2),
+      b .pre .framed,
+      seeking-tier _ _ _ _ _ _ (c .before .before .before .before .before .loop .inv) (omega arith) (c .before .before .before .if1 .left) (b .pre .tiersOf),
     )
 
 add-k : tie.Need-add-k Inv-loop μ-loop
 add-k c =
     let p = c .before .before .before .before .before .before .before in let tier-count = p .tier-count in
-    omega (arith, tier-count .ensures, p .before .before .pre .0 .tierCount)
+    omega (arith, tier-count .ensures, p .before .before .pre .framed .tierCount)
 
 loop-less : tie.Need-loop-less Inv-loop μ-loop
 loop-less c = omega arith

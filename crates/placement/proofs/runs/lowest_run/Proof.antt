@@ -14,10 +14,12 @@ abbrev μ-loop : tie.MeasureT-loop
 μ-loop z img old t n have₀ i₀ have i = z .settings .chunks - i
 
 loop-holds : tie.Need-loop-holds Inv-loop μ-loop
-loop-holds c = running-starts _ _ _ _ _ (c .before .pre .2)
+loop-holds c = running-starts _ _ _ _ _ (c .before .pre .some)
 
 is-clear-requires : tie.Need-is-clear-requires Inv-loop μ-loop
-is-clear-requires c κs = let s = c .before .before .before .before in (s .pre .0, s .pre .1, omega arith, s .pre .3)
+is-clear-requires c κs =
+    let s = c .before .before .before .before in
+    record { tier = s .pre .tier; chunkIn = omega arith; oldEnds = s .pre .oldEnds }
 
 add-i : tie.Need-add-i Inv-loop μ-loop
 add-i c = omega arith

@@ -13,7 +13,7 @@ full-but-requires c κs = search needs
 add-if1 : tie.Need-add-if1
 add-if1 c =
     let s = c .before .before in
-    omega (arith, fullBut-le (s .args .z) (s .args .img .now) (s .args .old) (s .args .t), c .full-but .ensures, s .pre .0 .valid .slots .1 .1)
+    omega (arith, fullBut-le (s .args .z) (s .args .img .now) (s .args .old) (s .args .t), c .full-but .ensures, s .pre .tier .framed .valid .slots .1 .1)
 
 returns : tie.Need-returns
 returns c =
