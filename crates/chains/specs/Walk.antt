@@ -1,5 +1,5 @@
 -- What one walk along a chain finds, and how often each tier was met.
-use Prim.Native.Nat.{ℕ, _+_, _^_, _≤_, _<_}
+use Prim.Native.Nat.{ℕ, _+_, _^_, _≤_, _<_, suc}
 use mathlib.Core.List.{List, [], _∷_, flatMap}
 use mathlib.Core.Path.{_≡_}
 use lib.ListN.{length, getD, set, drop}
@@ -7,7 +7,7 @@ use Rattle.lists.specs.Lists.{below}
 use Rattle.lists.specs.Quantify.{Below, Every}
 use Rattle.layout.specs.declared.Shape.{Shape}
 use Rattle.layout.specs.Tiers.{IsTier, IsExtra}
-use Rattle.layout.specs.Frame.{Framed}
+use Rattle.layout.specs.Frame.{Framed, mostTiers}
 use Rattle.chains.specs.declared.Walked.{Walked}
 use Rattle.chains.specs.declared.Walked.the-variants.{Ended, Lost}
 use Rattle.chains.specs.Chains.{follow, endOf, chain, ChainFits}
@@ -66,7 +66,7 @@ MetAtMost times n = (u : ℕ) → getD times u 0 ≤ n
 
 -- a count for 0 and for each of 1,024 tiers
 abbrev pub counts : ℕ
-counts = 1025
+counts = suc mostTiers
 
 -- an image whose frame fits, and the counts so far
 pub record Counting (z : Shape) (img times : List ℕ) (n : ℕ) : Type 0 where
@@ -77,7 +77,7 @@ pub record Counting (z : Shape) (img times : List ℕ) (n : ℕ) : Type 0 where
 -- a walk over at most n tiers
 pub record CanWalk (z : Shape) (img : List ℕ) (n : ℕ) (times : List ℕ) : Type 0 where
   pub counting : Counting z img times (2 ^ 32)
-  pub few : n ≤ 1024
+  pub few : n ≤ mostTiers
 
 -- the walk along segment s's chain
 pub record CanWalkChain (z : Shape) (img : List ℕ) (s : ℕ) (times : List ℕ) : Type 0 where

@@ -10,11 +10,12 @@ use Rattle.layout.specs.Frame.{Framed}
 use Rattle.layout.specs.FramedTier.{FramedTier}
 use Rattle.chains.specs.Chains.{FreeChainFits}
 use Rattle.chains.specs.Walk.{MetAtMost}
+use Rattle.settings.specs.Rules.{mostTierChunks}
 
 -- counts that can go up by 1, at n chunks from c on
 pub record CanCount (covered : List ℕ) (c n : ℕ) : Type 0 where
   pub ends : c + n ≤ length covered
-  pub few : MetAtMost covered 4096
+  pub few : MetAtMost covered mostTierChunks
 
 module _ (z : Shape) (img : List ℕ) where
   open Shape z using (settings)

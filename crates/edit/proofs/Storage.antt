@@ -34,6 +34,7 @@ use Rattle.edit.proofs.Without.{left, without-sound, without-head}
 use Rattle.edit.proofs.Replacing.{sound-framed, sound-tiers, old-fits, old-out, old-tier}
 use Rattle.edit.proofs.Scanning.{scan-is}
 use Rattle.edit.proofs.Storing.{fits-at, fits-free}
+use Rattle.layout.specs.Frame.{mostTiers}
 
 -- an entry takes a chunk at least
 pub some-chunks : {z : Shape} {img key value : List ℕ} → Storable z img key value → (n : ℕ)
@@ -44,9 +45,9 @@ some-chunks {z} {img} {key} {value} w n e =
     (chunks-pos (z .settings) (length key) (length value) (omega (arith, w .keyFits .notLonger)) (omega (arith, w .valueFits .notLonger))
     (w .sound .fits .valid))
 
--- a sound image with a free tier uses fewer than 1,024
+-- a sound image with a free tier uses fewer than the most
 used-few : {C : Type 0} (z : Shape) (img : List ℕ) → SoundWith C z img → (s : ℕ) → s < z .settings .segments → freeHead z img ≢ 0
-    → get z img (global usedTiers) < 1024
+    → get z img (global usedTiers) < mostTiers
 used-few z img sound s hs ne = omega (arith, used-small z img s hs (sound .fits .chains) ne, sound .fits .frame .tierCount)
 
 -- what a store knows after its scan

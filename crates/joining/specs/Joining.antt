@@ -6,7 +6,7 @@ use lib.ListN.{length, getD}
 use Rattle.lists.specs.Quantify.{Every}
 use Rattle.layout.specs.declared.Shape.{Shape}
 use Rattle.layout.specs.Tiers.{IsTier}
-use Rattle.layout.specs.Frame.{Framed}
+use Rattle.layout.specs.Frame.{Framed, mostTiers}
 use Rattle.layout.specs.Places.{get, _≔_, puts, global, firstFree, usedTiers, tier, counter, previous, segment, order, nextPlace}
 use Rattle.chains.specs.Chains.{chain, nextOf, freeHead}
 
@@ -46,4 +46,4 @@ pub record CanFollow (z : Shape) (img : List ℕ) (s : ℕ) : Type 0 where
 pub record CanJoin (z : Shape) (img : List ℕ) (s : ℕ) : Type 0 where
   pub follows : CanFollow z img s
   pub freeIn : IsTier z (freeHead z img)
-  pub fewUsed : get z img (global usedTiers) < 1024
+  pub fewUsed : get z img (global usedTiers) < mostTiers

@@ -5,7 +5,7 @@ use lib.ListN.{length}
 use Rattle.settings.specs.declared.Settings.{Settings}
 use Rattle.layout.specs.declared.Shape.{Shape}
 use Rattle.layout.specs.FramedTier.{FramedTier}
-use Rattle.entries.specs.Stored.{chunksFor}
+use Rattle.entries.specs.Stored.{chunksFor, longestValue}
 use Rattle.search.specs.Rules.{SomeEmpty}
 use Rattle.search.specs.Asking.{Seeks, Lacks}
 use Rattle.lists.specs.Quantify.{Every}
@@ -13,6 +13,7 @@ use Rattle.layout.specs.Tiers.{IsTier}
 use Rattle.layout.specs.Frame.{Framed}
 use Rattle.chains.specs.Chains.{chain}
 use Rattle.placement.specs.declared.Old.{Old}
+use Rattle.entries.specs.Keys.{longestKey}
 
 module _ (z : Shape) (img : List ℕ) where
   open Shape z using (settings)
@@ -21,8 +22,8 @@ module _ (z : Shape) (img : List ℕ) where
   -- an entry that ends within tier t's chunks, from chunk c on
   pub record CanWrite (t c : ℕ) (key value : List ℕ) : Type 0 where
     pub tier : FramedTier z img t
-    pub keyLong : length key ≤ 1024
-    pub valueLong : length value ≤ 65535
+    pub keyLong : length key ≤ longestKey
+    pub valueLong : length value ≤ longestValue
     pub rangeEnds : c + chunksFor settings (length key) (length value) ≤ chunks
 
   -- a key that is in no slot of tier t, which has an empty one

@@ -3,17 +3,15 @@ use layout::Shape;
 use probe::Cursor;
 use settings::Settings;
 ghost use mathlib.Core.Path.{_≡_};
-ghost use Prim.Native.Nat.{_+_, _<_, _≤_};
-ghost use lib.ListN.{length};
+ghost use Prim.Native.Nat.{_<_, _≤_};
 ghost use Rattle.lists.specs.Decide.{Decides};
 ghost use Rattle.settings.specs.Rules.{Valid};
-ghost use Rattle.layout.specs.Tiers.{IsTier};
-ghost use Rattle.layout.specs.Frame.{Framed};
+ghost use Rattle.layout.specs.FramedTier.{FramedSlot};
 ghost use Rattle.probe.specs.Ring.{dist};
 ghost use Rattle.probe.specs.Removal.{remove};
 ghost use Rattle.entries.specs.Keys.{start, slotKey};
 ghost use Rattle.search.specs.Search.{slotsOf};
-ghost use Rattle.removal.specs.Removal.{removeAt};
+ghost use Rattle.removal.specs.Removal.{removeAt, CanRemove};
 
 // Whether a slot i that holds v stays: its start lies on the stretch after the hole h up to and including i.
 fn stays(st: Settings, v: u64, h: usize, i: usize) -> bool
@@ -34,7 +32,7 @@ fn stays(st: Settings, v: u64, h: usize, i: usize) -> bool
 
 // Empties slot j of a tier: later slots move back into the hole, up to an empty slot.
 fn empty_slot(z: Shape, img: &mut [u8], t: usize, j: usize)
-    requires { ⌜ Framed z (length (now img)) × IsTier z t × (j < z .settings .slots) ⌝ }
+    requires { ⌜ FramedSlot z (now img) t j ⌝ }
     ensures { λ r. ⌜ now (img .exit) ≡ remove (slotsOf z t) (now (img .entry)) j ⌝ }
 {
     let st = z.settings;
@@ -64,7 +62,7 @@ fn empty_slot(z: Shape, img: &mut [u8], t: usize, j: usize)
 
 // Removes the entry of slot j of a tier, whose chunks are the n from c on.
 pub fn remove_at(z: Shape, img: &mut [u8], t: usize, j: usize, c: usize, n: usize)
-    requires { ⌜ Framed z (length (now img)) × IsTier z t × (j < z .settings .slots) × (c + n ≤ z .settings .chunks) ⌝ }
+    requires { ⌜ CanRemove z (now img) t j c n ⌝ }
     ensures { λ r. ⌜ now (img .exit) ≡ removeAt z (now (img .entry)) t j c n ⌝ }
 {
     layout::write::put_marks(z, img, t, c, n, 0);

@@ -12,7 +12,11 @@ returns c =
 remove-at-requires : tie.Need-remove-at-requires
 remove-at-requires c κs =
     let start = c .before .before .before .before in
-    (start .pre .0, start .pre .1 .tierIn (c .before .if1 .left), start .pre .1 .slotIn, start .pre .1 .rangeEnds)
+    let old = start .pre .1 in
+    record {
+      slot = record { tier = record { framed = start .pre .0; tierIn = old .tierIn (c .before .if1 .left) }; slotIn = old .slotIn };
+      rangeEnds = old .rangeEnds;
+    }
 
 same-length : tie.Need-same-length
 same-length c = search needs

@@ -22,19 +22,19 @@ step-requires c κs = search needs
 loop-holds : tie.Need-loop-holds Inv-loop μ-loop
 loop-holds c =
     let s = c .before .before .before in
-    (emptying-starts (s .args .z) (s .args .t) (s .args .j) (s .args .img .now) (c .step .result .slot) (s .pre .2) (c .step .ensures .0), c .step .ensures .1)
+    (emptying-starts (s .args .z) (s .args .t) (s .args .j) (s .args .img .now) (c .step .result .slot) (s .pre .slotIn) (c .step .ensures .0), c .step .ensures .1)
 
 slot-requires : tie.Need-slot-requires Inv-loop μ-loop
 slot-requires c κs =
     let s = c .before .before .before .before .before .before in
     let w = c .before .before .loop .inv .0 in
-    record { tier = record { framed = emptying-framed (s .args .z) (s .args .t) w (s .pre .0); tierIn = s .pre .1 }; slotIn = w .i-lt }
+    record { tier = record { framed = emptying-framed (s .args .z) (s .args .t) w (s .pre .tier .framed); tierIn = s .pre .tier .tierIn }; slotIn = w .i-lt }
 
 put-slot-requires : tie.Need-put-slot-requires Inv-loop μ-loop
 put-slot-requires c κs =
     let s = c .before .before .before .before .before .before .before .before .before in
     let w = c .before .before .before .before .before .loop .inv .0 in
-    record { tier = record { framed = emptying-framed (s .args .z) (s .args .t) w (s .pre .0); tierIn = s .pre .1 }; slotIn = w .hole-lt }
+    record { tier = record { framed = emptying-framed (s .args .z) (s .args .t) w (s .pre .tier .framed); tierIn = s .pre .tier .tierIn }; slotIn = w .hole-lt }
 
 same-length : tie.Need-same-length Inv-loop μ-loop
 same-length c =
@@ -53,13 +53,13 @@ stays-requires : tie.Need-stays-requires Inv-loop μ-loop
 stays-requires c κs =
     let p = c .before .before .before .before in let the-loop = p .loop in
     let start = p .before .before .before .before in
-    let w = the-loop .inv .0 in (start .pre .0 .valid, w .hole-lt, w .i-lt)
+    let w = the-loop .inv .0 in (start .pre .tier .framed .valid, w .hole-lt, w .i-lt)
 
 put-slot-requires-2 : tie.Need-put-slot-requires-2 Inv-loop μ-loop
 put-slot-requires-2 c κs =
     let s = c .before .before .before .before .before .before .before .before .before .before .before in
     let w = c .before .before .before .before .before .before .before .loop .inv .0 in
-    record { tier = record { framed = emptying-framed (s .args .z) (s .args .t) w (s .pre .0); tierIn = s .pre .1 }; slotIn = w .hole-lt }
+    record { tier = record { framed = emptying-framed (s .args .z) (s .args .t) w (s .pre .tier .framed); tierIn = s .pre .tier .tierIn }; slotIn = w .hole-lt }
 
 step-requires-2 : tie.Need-step-requires-2 Inv-loop μ-loop
 step-requires-2 c κs =
@@ -95,7 +95,7 @@ put-slot-requires-3 : tie.Need-put-slot-requires-3 Inv-loop μ-loop
 put-slot-requires-3 c κs =
     let s = c .before .before .before .before .before .before in
     let w = c .before .before .loop .inv .0 in
-    record { tier = record { framed = emptying-framed (s .args .z) (s .args .t) w (s .pre .0); tierIn = s .pre .1 }; slotIn = w .hole-lt }
+    record { tier = record { framed = emptying-framed (s .args .z) (s .args .t) w (s .pre .tier .framed); tierIn = s .pre .tier .tierIn }; slotIn = w .hole-lt }
 
 same-length-2 : tie.Need-same-length-2 Inv-loop μ-loop
 same-length-2 c =

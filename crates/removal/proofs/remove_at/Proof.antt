@@ -10,7 +10,11 @@ put-marks-requires c κs = search needs
 empty-slot-requires : tie.Need-empty-slot-requires
 empty-slot-requires c κs =
     let s = c .before .before .before .before .before .before in
-    (framed-again (c .before .before .before .put-marks .kept .1 .0) (s .pre .0), s .pre .1, s .pre .2)
+    let slot = s .pre .slot in
+    record {
+      tier = record { framed = framed-again (c .before .before .before .put-marks .kept .1 .0) (slot .tier .framed); tierIn = slot .tier .tierIn };
+      slotIn = slot .slotIn;
+    }
 
 same-length : tie.Need-same-length
 same-length c = search needs
