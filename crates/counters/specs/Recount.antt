@@ -1,13 +1,10 @@
 -- Counters follow: the entry count and the lowest free chunk field of a tier, after its slots and bits were changed.
 use Prim.Native.Nat.{ℕ}
 use mathlib.Core.List.{List, [], _∷_}
-use mathlib.Core.Logic.{_≢_}
 use mathlib.Core.Bool.{true, false, _||_}
 use lib.Dec.{eqb}
 use lib.ListN.{length}
 use Rattle.layout.specs.declared.Shape.{Shape}
-use Rattle.layout.specs.Tiers.{IsTier}
-use Rattle.layout.specs.Frame.{Framed}
 use Rattle.layout.specs.Places.{_≔_, puts, countPlace, lowPlace}
 use Rattle.entries.specs.Live.{fullSlots}
 use Rattle.chunks.specs.Chunks.{lowestClear}
@@ -23,9 +20,3 @@ settle z img (t ∷ ts) = settle z (recount z img t) ts
 -- the tiers that an edit changed: t, and another tier u if there is one (0 is none)
 unfoldable pub touched : ℕ → ℕ → List ℕ
 touched t u = elim (eqb u 0 || eqb u t) [ true ↦ t ∷ [] | false ↦ t ∷ u ∷ [] ]
-
--- what that asks for
-pub record Settles (z : Shape) (len t u : ℕ) : Type 0 where
-  pub framed : Framed z len
-  pub tierIn : IsTier z t
-  pub otherIn : u ≢ 0 → IsTier z u

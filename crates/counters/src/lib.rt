@@ -5,7 +5,8 @@ ghost use lib.ListN.{length};
 ghost use Rattle.layout.specs.Tiers.{IsTier};
 ghost use Rattle.layout.specs.Frame.{Framed};
 ghost use Rattle.entries.specs.Live.{fullSlots};
-ghost use Rattle.counters.specs.Recount.{recount as Recount·recount, settle as Recount·settle, touched, Settles};
+ghost use Rattle.counters.specs.Recount.{recount as Recount·recount, settle as Recount·settle, touched};
+ghost use Rattle.counters.specs.Asking.{Settles};
 
 // How many slots of a tier are full.
 pub fn full_slots(z: Shape, img: &[u8], t: usize) -> usize

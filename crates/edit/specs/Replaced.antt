@@ -19,7 +19,8 @@ use Rattle.removal.specs.Removal.{removeAt}
 use Rattle.placement.specs.declared.Old.{Old}
 use Rattle.placement.specs.Asking.{CanPlace}
 use Rattle.placement.specs.Placement.{placeAt}
-use Rattle.joining.specs.Joining.{join, CanJoin}
+use Rattle.joining.specs.Joining.{join}
+use Rattle.joining.specs.Asking.{CanJoin}
 use Rattle.edit.specs.Edits.{noRoom, storeImage}
 
 unfoldable pub oldOf : Option Live → Old

@@ -7,8 +7,10 @@ use lib.ListN.{length}
 use Rattle.settings.specs.declared.Settings.{Settings}
 use Rattle.layout.specs.declared.Shape.{Shape}
 use Rattle.layout.specs.Tiers.{IsTier}
+use Rattle.layout.specs.Frame.{Framed}
 use Rattle.entries.specs.declared.Live.{Live}
 use Rattle.entries.specs.Live.{slotAt}
+use Rattle.search.specs.Asking.{FramedChains}
 use Rattle.image.specs.declared.cursor.LiveCursor.{LiveCursor}
 use Rattle.image.specs.Cursor.{ahead, InChain}
 
@@ -42,3 +44,17 @@ module _ (z : Shape) (img : List ℕ) where
   pub record Settled (c : LiveCursor) : Type 0 where
     pub onFull : c .left ≢ 0 → OnFull c
     pub none : c .left ≡ 0 → ahead z img c ≡ []
+
+  -- ---- what the functions ask for
+
+  -- a cursor in a tier of a chain, at which it looks
+  pub record CanLook (c : LiveCursor) : Type 0 where
+    pub framed : Framed z (length img)
+    pub inChain : InChain z img c
+    pub some : c .left ≢ 0
+    pub tierIs : c .tier ≢ 0
+
+  -- a cursor that may come to any chain
+  pub record CanMove (c : LiveCursor) : Type 0 where
+    pub chains : FramedChains z img
+    pub inChain : InChain z img c

@@ -11,7 +11,7 @@ ghost use Rattle.layout.specs.Frame.{Framed};
 ghost use Rattle.entries.specs.Live.{liveAt};
 ghost use Rattle.search.specs.Search.{ChainTiers};
 ghost use Rattle.image.specs.Cursor.{InChain, startOf, rest, Begins, Steps};
-ghost use Rattle.image.specs.Moving.{OnFull, Moves, InTier, Settled};
+ghost use Rattle.image.specs.Moving.{OnFull, Moves, InTier, Settled, CanLook, CanMove};
 
 // A place among the live entries: a slot of a tier in a segment's chain. Of the chain at most `left` tiers are still met, this
 // one with them, so that a walk ends. The next `skip` entries are passed over: of those only the slots are read.
@@ -54,7 +54,7 @@ impl LiveCursor {
 
     // In its tier to the full slot of the next entry, or past the slots.
     fn in_tier(self, z: Shape, img: &[u8]) -> LiveCursor
-        requires { ⌜ Framed z (length (now img)) × InChain z (now img) self × (self .left ≢ 0) × (self .tier ≢ 0) ⌝ }
+        requires { ⌜ CanLook z (now img) self ⌝ }
         ensures { λ r. ⌜ InTier z (now (img .entry)) self r × (r .slot < z .settings .slots → OnFull z (now (img .entry)) r) ⌝ }
     {
         let mut c = self;
@@ -96,7 +96,7 @@ impl LiveCursor {
 
     // To the full slot of the next entry, or until no tier is left in any chain.
     pub fn settled(self, z: Shape, img: &[u8]) -> LiveCursor
-        requires { ⌜ Framed z (length (now img)) × ChainTiers z (now img) × InChain z (now img) self ⌝ }
+        requires { ⌜ CanMove z (now img) self ⌝ }
         ensures { λ r. ⌜ Moves z (now (img .entry)) self r × Settled z (now (img .entry)) r ⌝ }
     {
         let mut c = self;
@@ -121,7 +121,7 @@ impl LiveCursor {
     }
 
     pub fn step(self, z: Shape, img: &[u8]) -> Step
-        requires { ⌜ Framed z (length (now img)) × ChainTiers z (now img) × InChain z (now img) self ⌝ }
+        requires { ⌜ CanMove z (now img) self ⌝ }
         ensures { λ r. ⌜ Steps z (now (img .entry)) (rest z (now (img .entry)) self) r ⌝ }
     {
         let c = self.settled(z, img);

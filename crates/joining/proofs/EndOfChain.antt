@@ -12,7 +12,8 @@ use Rattle.layout.specs.Tiers.{tiers, IsTier}
 use Rattle.chains.specs.Chains.{chain, nextOf}
 use Rattle.chains.proofs.Segments.{chain-length}
 use Rattle.chains.proofs.Along.{AlongChain, chain-starts, chain-ends, chain-out, chain-in, chain-turns}
-use Rattle.joining.specs.Joining.{lastTier, EndsAt, CanFollow}
+use Rattle.joining.specs.Joining.{lastTier}
+use Rattle.joining.specs.Asking.{EndsAt, CanFollow}
 
 -- the last of a list, counted after one more in front
 pub last-after : (d : ℕ) (l : List ℕ) → 0 < length l → getD (d ∷ l) (length l) 0 ≡ getD l (length l - 1) 0

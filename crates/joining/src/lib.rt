@@ -1,7 +1,8 @@
 // A free tier joins a chain.
 use layout::Shape;
 ghost use mathlib.Core.Path.{_≡_};
-ghost use Rattle.joining.specs.Joining.{join as Joining·join, EndsAt, CanFollow, CanJoin};
+ghost use Rattle.joining.specs.Joining.{join as Joining·join};
+ghost use Rattle.joining.specs.Asking.{EndsAt, CanFollow, CanJoin};
 
 // The last tier of a chain, and how many tiers it has.
 pub struct End {

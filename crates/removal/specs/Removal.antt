@@ -1,12 +1,11 @@
 -- Removal: the bit range is cleared, the slot becomes a hole, later slots move back. Entry bytes stay. The counters follow at the end of an edit.
-use Prim.Native.Nat.{ℕ, _+_, _≤_}
+use Prim.Native.Nat.{ℕ}
 use mathlib.Core.List.{List}
 use Rattle.layout.specs.declared.Shape.{Shape}
 use Rattle.layout.specs.Places.{putMarks}
 use Rattle.probe.specs.Removal.{remove}
 use Rattle.entries.specs.declared.Live.{Live}
 use Rattle.search.specs.Search.{slotsOf}
-use Rattle.layout.specs.FramedTier.{FramedSlot}
 
 -- slot j of tier t, with the n chunks from c on
 unfoldable pub removeAt : Shape → List ℕ → ℕ → ℕ → ℕ → ℕ → List ℕ
@@ -14,8 +13,3 @@ removeAt z img t j c n = remove (slotsOf z t) (putMarks z img t c n 0) j
 
 abbrev pub removeEntry : Shape → List ℕ → Live → List ℕ
 removeEntry z img e = removeAt z img (e .tier) (e .slot) (e .chunk) (e .chunks)
-
--- what it asks for
-pub record CanRemove (z : Shape) (img : List ℕ) (t j c n : ℕ) : Type 0 where
-  pub slot : FramedSlot z img t j
-  pub rangeEnds : c + n ≤ z .settings .chunks

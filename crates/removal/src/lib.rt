@@ -11,7 +11,8 @@ ghost use Rattle.probe.specs.Ring.{dist};
 ghost use Rattle.probe.specs.Removal.{remove};
 ghost use Rattle.entries.specs.Keys.{start, slotKey};
 ghost use Rattle.search.specs.Search.{slotsOf};
-ghost use Rattle.removal.specs.Removal.{removeAt, CanRemove};
+ghost use Rattle.removal.specs.Removal.{removeAt};
+ghost use Rattle.removal.specs.Asking.{CanRemove};
 
 // Whether a slot i that holds v stays: its start lies on the stretch after the hole h up to and including i.
 fn stays(st: Settings, v: u64, h: usize, i: usize) -> bool

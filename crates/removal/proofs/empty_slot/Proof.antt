@@ -21,8 +21,10 @@ step-requires c κs = search needs
 
 loop-holds : tie.Need-loop-holds Inv-loop μ-loop
 loop-holds c =
-    let s = c .before .before .before in
-    (emptying-starts (s .args .z) (s .args .t) (s .args .j) (s .args .img .now) (c .step .result .slot) (s .pre .slotIn) (c .step .ensures .0), c .step .ensures .1)
+    let s = c .before .before .before in (
+      emptying-starts (s .args .z) (s .args .t) (s .args .j) (s .args .img .now) (c .step .result .slot) (s .pre .slotIn) (c .step .ensures .0),
+      c .step .ensures .1,
+    )
 
 slot-requires : tie.Need-slot-requires Inv-loop μ-loop
 slot-requires c κs =

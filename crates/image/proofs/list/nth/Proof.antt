@@ -12,7 +12,10 @@ settled-requires c κs =
     let start = c .before .before in
     let z = start .args .z in
     let img = start .args .img .now in
-    (start .pre .0, start .pre .1, picks-in z img (omega (arith, start .pre .0 .valid .segments)) (c .start .ensures) (start .pre .1))
+    record {
+      chains = record { framed = start .pre .0; chainTiers = start .pre .1 };
+      inChain = picks-in z img (omega (arith, start .pre .0 .valid .segments)) (c .start .ensures) (start .pre .1);
+    }
 
 returns : tie.Need-returns
 returns c =

@@ -25,7 +25,7 @@ loop-holds c =
 step-requires : tie.Need-step-requires Inv-loop μ-loop
 step-requires c κs =
     let start = c .before .before .before in
-    (start .pre .0, start .pre .1, c .loop .inv)
+    record { chains = record { framed = start .pre .0; chainTiers = start .pre .1 }; inChain = c .loop .inv }
 
 enum-known-e : tie.Need-enum-known-e Inv-loop μ-loop
 enum-known-e c = search needs

@@ -27,7 +27,7 @@ returns c =
 in-tier-requires : tie.Need-in-tier-requires Inv-loop μ-loop
 in-tier-requires c κs =
     let p = c .before .before .before .before in
-    (p .before .before .pre .0, p .loop .inv .0 .inChain, c .before .before .if1 .taken, c .if2 .left)
+    record { framed = p .before .before .pre .0; inChain = p .loop .inv .0 .inChain; some = c .before .before .if1 .taken; tierIs = c .if2 .left }
 
 returns-2 : tie.Need-returns-2 Inv-loop μ-loop
 returns-2 c =

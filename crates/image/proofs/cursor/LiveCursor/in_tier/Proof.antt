@@ -14,7 +14,7 @@ abbrev μ-loop : tie.MeasureT-loop
 loop-holds : tie.Need-loop-holds Inv-loop μ-loop
 loop-holds c =
     let start = c .before in
-    tier-starts (start .args .z) (start .args .img .now) (start .pre .1)
+    tier-starts (start .args .z) (start .args .img .now) (start .pre .inChain)
 
 slot-requires : tie.Need-slot-requires Inv-loop μ-loop
 slot-requires c κs =
@@ -22,12 +22,12 @@ slot-requires c κs =
     let start = c .before .before .before .before .before in
     let z = start .args .z in
     let img = start .args .img .now in
-    record { tier = record { framed = start .pre .0; tierIn = tier-met z img (start .pre .2) (start .pre .3) inv }; slotIn = omega arith }
+    record { tier = record { framed = start .pre .framed; tierIn = tier-met z img (start .pre .some) (start .pre .tierIs) inv }; slotIn = omega arith }
 
 add-c : tie.Need-add-c Inv-loop μ-loop
 add-c c =
     let start = c .before .before .before .before .before .before .before .before in
-    omega (arith, start .pre .0 .valid .slots)
+    omega (arith, start .pre .framed .valid .slots)
 
 loop-less : tie.Need-loop-less Inv-loop μ-loop
 loop-less c = omega arith
@@ -39,7 +39,7 @@ loop-again c =
     let start = p .before .before .before .before .before in
     let z = start .args .z in
     let img = start .args .img .now in
-    tier-empty z img (start .pre .2) (start .pre .3) inv (omega arith) (c .before .before .slot .ensures) (c .before .if2 .taken)
+    tier-empty z img (start .pre .some) (start .pre .tierIs) inv (omega arith) (c .before .before .slot .ensures) (c .before .if2 .taken)
 
 returns : tie.Need-returns Inv-loop μ-loop
 returns c =
@@ -49,7 +49,7 @@ returns c =
     let z = start .args .z in
     let img = start .args .img .now in
     let slot = c .before .before .before .slot .ensures in
-    (inv, λ h. tier-found z img (start .pre .2) (start .pre .3) inv h slot (c .before .before .if2 .left) (c .if3 .taken))
+    (inv, λ h. tier-found z img (start .pre .some) (start .pre .tierIs) inv h slot (c .before .before .if2 .left) (c .if3 .taken))
 
 sub-c : tie.Need-sub-c Inv-loop μ-loop
 sub-c c = omega arith
@@ -57,7 +57,7 @@ sub-c c = omega arith
 add-c-2 : tie.Need-add-c-2 Inv-loop μ-loop
 add-c-2 c =
     let start = c .before .before .before .before .before .before .before .before .before .before .before in
-    omega (arith, start .pre .0 .valid .slots)
+    omega (arith, start .pre .framed .valid .slots)
 
 loop-less-2 : tie.Need-loop-less-2 Inv-loop μ-loop
 loop-less-2 c = omega arith
@@ -70,7 +70,7 @@ loop-again-2 c =
     let z = start .args .z in
     let img = start .args .img .now in
     let slot = c .before .before .before .before .before .slot .ensures in
-    tier-over z img (start .pre .2) (start .pre .3) inv (omega arith) slot (c .before .before .before .before .if2 .left) (c .before .before .if3 .left)
+    tier-over z img (start .pre .some) (start .pre .tierIs) inv (omega arith) slot (c .before .before .before .before .if2 .left) (c .before .before .if3 .left)
 
 returns-2 : tie.Need-returns-2 Inv-loop μ-loop
 returns-2 c =

@@ -17,10 +17,10 @@ abbrev μ-loop : tie.MeasureT-loop
 loop-holds : tie.Need-loop-holds Inv-loop μ-loop
 loop-holds c =
     let start = c .before in
-    moves-starts (start .args .z) (start .args .img .now) (start .pre .2)
+    moves-starts (start .args .z) (start .args .img .now) (start .pre .inChain)
 
 in-chain-requires : tie.Need-in-chain-requires Inv-loop μ-loop
-in-chain-requires c κs = (c .before .before .pre .0, c .loop .inv .inChain)
+in-chain-requires c κs = (c .before .before .pre .chains .framed, c .loop .inv .inChain)
 
 returns : tie.Need-returns Inv-loop μ-loop
 returns c =
@@ -51,7 +51,7 @@ add-start c = omega arith
 start-requires : tie.Need-start-requires Inv-loop μ-loop
 start-requires c κs =
     let start = c .before .before .before .before .before .before .before .before .before in
-    (framed-largest (start .pre .0), omega arith)
+    (framed-largest (start .pre .chains .framed), omega arith)
 
 loop-less : tie.Need-loop-less Inv-loop μ-loop
 loop-less c =
@@ -66,7 +66,7 @@ loop-again c =
     let start = p .before .before .before .before in
     let z = start .args .z in
     let img = start .args .img .now in
-    let next = moves-segment z img (c .before .before .before .before .before .if1 .left) (start .pre .1) (omega arith) (c .start .ensures) in
+    let next = moves-segment z img (c .before .before .before .before .before .if1 .left) (start .pre .chains .chainTiers) (omega arith) (c .start .ensures) in
     moves-more z img (moves-more z img inv (chain .0)) next
 
 pub settled-spec : {M : Type 1} → statement M

@@ -19,13 +19,13 @@ returns c =
 add-t7 : tie.Need-add-t7
 add-t7 c =
     let p = c .before .before .before in
-    omega (arith, p .settled .ensures .1 .onFull (c .before .if1 .left) .slotIn, p .before .before .pre .0 .valid .slots)
+    omega (arith, p .settled .ensures .1 .onFull (c .before .if1 .left) .slotIn, p .before .before .pre .chains .framed .valid .slots)
 
 entry-requires : tie.Need-entry-requires
 entry-requires c κs =
     let p = c .before .before .before in let settled = p .settled in
     let start = p .before .before in
-    (start .pre .0, settled .ensures .1 .onFull (c .before .if1 .left))
+    (start .pre .chains .framed, settled .ensures .1 .onFull (c .before .if1 .left))
 
 returns-2 : tie.Need-returns-2
 returns-2 c =
