@@ -1,4 +1,4 @@
--- The entry that an edit takes out: where the search found it, and the image without it.
+-- The entry that an edit removes: where the search found it, and the image without it.
 use Prim.Native.Nat.{ℕ, _+_, _≤_, _<_}
 use mathlib.Core.List.{List}
 use mathlib.Core.Path.{_≡_, refl, ap, ap₂, sym, _∙_, subst}
@@ -42,16 +42,16 @@ pub entry-lengths : (z : Shape) (img : List ℕ) (t j : ℕ) (e : Entry) → e �
 unfolding entryAt
 entry-lengths z img t j e is = rw is (entry-small z img t (chunkOf z img t j))
 
--- ---- taken out, or there is none
+-- ---- removed, or there is none
 
 module _ (z : Shape) (img : List ℕ) (old : Old) where
-  pub out-none : old .tier ≡ 0 → img ≡ withoutOld z img old
+  pub withoutOld-none : old .tier ≡ 0 → img ≡ withoutOld z img old
   unfolding withoutOld
-  out-none e = rw (eq-eqb (old .tier) 0 e, withoutOld)
+  withoutOld-none e = rw (eq-eqb (old .tier) 0 e, withoutOld)
 
-  pub out-some : old .tier ≢ 0 → removeAt z img (old .tier) (old .slot) (old .chunk) (old .chunks) ≡ withoutOld z img old
+  pub withoutOld-some : old .tier ≢ 0 → removeAt z img (old .tier) (old .slot) (old .chunk) (old .chunks) ≡ withoutOld z img old
   unfolding withoutOld
-  out-some e = rw (ne-eqb (old .tier) 0 e, withoutOld)
+  withoutOld-some e = rw (ne-eqb (old .tier) 0 e, withoutOld)
 
 -- the steps of a store, where the code has the image after each
 module _ (z : Shape) (img : List ℕ) (old : Old) where
@@ -125,8 +125,8 @@ module _ (z : Shape) (img : List ℕ) (sound : SoundImage z img) where
 
     out-by : (o : Option Live) → find z img key ≡ o → withoutOld z img (oldOf o) ≡ withoutEntry z img o
     unfolding oldOf withoutEntry
-    out-by none f = sym (out-none z img (oldOf none) refl)
-    out-by (some e) f = sym (out-some z img (oldOf (some e)) (found-tier e f))
+    out-by none f = sym (withoutOld-none z img (oldOf none) refl)
+    out-by (some e) f = sym (withoutOld-some z img (oldOf (some e)) (found-tier e f))
 
     tier-by : (o : Option Live) → oldOf o .tier ≡ tierOf o
     unfolding oldOf
@@ -147,9 +147,9 @@ module _ (z : Shape) (img : List ℕ) (sound : SoundImage z img) where
       pub old-fits : OldFits z old
       old-fits = subst (OldFits z) (sym is) (fits-by (find z img key) refl)
 
-      pub old-out : withoutOld z img old ≡ without z img key
+      pub withoutOld-is : withoutOld z img old ≡ without z img key
       unfolding without
-      old-out = ap (withoutOld z img) is ∙ out-by (find z img key) refl
+      withoutOld-is = ap (withoutOld z img) is ∙ out-by (find z img key) refl
 
       pub old-tier : old .tier ≡ tierOf (find z img key)
       old-tier = ap (λ (x : Old). x .tier) is ∙ tier-by (find z img key)
@@ -165,7 +165,7 @@ module _ (z : Shape) (img : List ℕ) (sound : SoundImage z img) where
       removes-some q ex ey =
           let r : (true ≡ isThere (find z img key)) × (recount z (withoutEntry z img (find z img key)) (tierOf (find z img key)) ≡ removeImage z img key) =
           some-by (find z img key) (λ e. q (old-tier ∙ e)) in
-          (r .0, ey ∙ ap₂ (recount z) (ex ∙ old-out) old-tier ∙ r .1)
+          (r .0, ey ∙ ap₂ (recount z) (ex ∙ withoutOld-is) old-tier ∙ r .1)
 
     -- ---- by the search
 

@@ -31,7 +31,7 @@ use Rattle.joining.proofs.Ends.{new-tier, used-small}
 use Rattle.edit.specs.Edits.{find, without, runOf, noRoom, placeIn, tierOf, storeImage}
 use Rattle.edit.specs.Replaced.{oldOf, withoutOld, replacedOld, extendedOld, Stores, Storable, Replaces, Extends}
 use Rattle.edit.proofs.Without.{left, without-sound, without-head}
-use Rattle.edit.proofs.Replacing.{sound-framed, sound-tiers, old-fits, old-out, old-tier}
+use Rattle.edit.proofs.Replacing.{sound-framed, sound-tiers, old-fits, withoutOld-is, old-tier}
 use Rattle.edit.proofs.Scanning.{scan-is}
 use Rattle.edit.proofs.Storing.{fits-at, fits-free}
 use Rattle.layout.specs.Frame.{mostTiers}
@@ -93,7 +93,7 @@ module _ {z : Shape} {img key value : List ℕ} {old : Old} {s n : ℕ} {r : Run
   sound₁ = without-sound z img sound key
 
   old-is : withoutOld z img old ≡ img₁
-  old-is = old-out z img sound key old (w .oldIs)
+  old-is = withoutOld-is z img sound key old (w .oldIs)
 
   hs : segmentOf settings key < segments
   hs = segment-lt (sound .fits .valid) key

@@ -1,4 +1,4 @@
--- The entry that an edit takes out, as the code carries it: tier 0 where there is none.
+-- The entry that an edit removes, as the code carries it: tier 0 where there is none.
 use Prim.Native.Nat.{ℕ, _+_, _≤_, _<_}
 use mathlib.Core.List.{List}
 use mathlib.Core.Path.{_≡_}

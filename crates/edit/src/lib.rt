@@ -32,8 +32,8 @@ fn old_entry(z: Shape, img: &[u8], key: &[u8]) -> Old
     }
 }
 
-// Takes it out.
-fn take_out(z: Shape, img: &mut [u8], old: Old)
+// Removes it.
+fn remove_old(z: Shape, img: &mut [u8], old: Old)
     requires { ⌜ Framed z (length (now img)) × OldFits z old ⌝ }
     ensures { λ r. ⌜ now (img .exit) ≡ withoutOld z (now (img .entry)) old ⌝ }
 {
@@ -53,7 +53,7 @@ pub fn remove(z: Shape, img: &mut [u8], key: &[u8]) -> bool
     if old.tier == 0 {
         return false;
     }
-    take_out(z, img, old);
+    remove_old(z, img, old);
     counters::recount(z, img, old.tier);
     true
 }
@@ -63,7 +63,7 @@ fn replace(z: Shape, img: &mut [u8], old: Old, t: usize, c: usize, key: &[u8], v
     requires { ⌜ Replaces z (now img) old t c (now key) (now value) ⌝ }
     ensures { λ r. ⌜ now (img .exit) ≡ replacedOld z (now (img .entry)) old t c (now (key .entry)) (now (value .entry)) ⌝ }
 {
-    take_out(z, img, old);
+    remove_old(z, img, old);
     placement::place::place_at(z, img, t, c, key, value);
     counters::settle(z, img, t, old.tier);
 }
@@ -73,7 +73,7 @@ fn extend(z: Shape, img: &mut [u8], old: Old, s: usize, t: usize, key: &[u8], va
     requires { ⌜ Extends z (now img) old s t (now key) (now value) ⌝ }
     ensures { λ r. ⌜ now (img .exit) ≡ extendedOld z (now (img .entry)) old s t (now (key .entry)) (now (value .entry)) ⌝ }
 {
-    take_out(z, img, old);
+    remove_old(z, img, old);
     joining::join(z, img, s);
     placement::place::place_at(z, img, t, 0, key, value);
     counters::settle(z, img, t, old.tier);

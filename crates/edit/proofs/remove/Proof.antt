@@ -16,8 +16,8 @@ returns c =
     let start = p .before .before .before .before in
     removes-none (start .args .z) (start .args .img .now) (start .pre) (start .args .key .now) (old-entry .result) (old-entry .ensures) (c .if1 .taken)
 
-take-out-requires : tie.Need-take-out-requires
-take-out-requires c κs =
+remove-old-requires : tie.Need-remove-old-requires
+remove-old-requires c κs =
     let p = c .before .before .before in let old-entry = p .old-entry in
     let start = p .before .before .before .before in (
       sound-framed (start .args .z) (start .args .img .now) (start .pre),
@@ -26,11 +26,11 @@ take-out-requires c κs =
 
 recount-requires : tie.Need-recount-requires
 recount-requires c κs =
-    let p = c .before .before .before in let take-out = p .take-out in
+    let p = c .before .before .before in let remove-old = p .remove-old in
     let p = p .before .before in let if1 = p .if1 in
     let p = p .before .before in let old-entry = p .old-entry in
     let start = p .before .before .before .before in (
-      framed-again (take-out .kept .1 .0) (sound-framed (start .args .z) (start .args .img .now) (start .pre)),
+      framed-again (remove-old .kept .1 .0) (sound-framed (start .args .z) (start .args .img .now) (start .pre)),
       old-fits (start .args .z) (start .args .img .now) (start .pre) (start .args .key .now) (old-entry .result) (old-entry .ensures) .tierIn (if1 .left),
     )
 
@@ -40,13 +40,13 @@ same-length-2 c = search needs
 returns-2 : tie.Need-returns-2
 returns-2 c =
     let p = c .before .before in let recount = p .recount in
-    let p = p .before .before .before .before in let take-out = p .take-out in
+    let p = p .before .before .before .before in let remove-old = p .remove-old in
     let p = p .before .before in let if1 = p .if1 in
     let p = p .before .before in let old-entry = p .old-entry in
     let start = p .before .before .before .before in
     removes-some (start .args .z) (start .args .img .now) (start .pre) (start .args .key .now) (old-entry .result) (old-entry .ensures) (if1 .left)
-    (take-out .ensures) (recount .ensures)
+    (remove-old .ensures) (recount .ensures)
 
 pub remove-spec : {M : Type 1} → statement M
 remove-spec =
-    tie.close (tie.spec old-entry-requires same-length returns take-out-requires recount-requires same-length-2 returns-2)
+    tie.close (tie.spec old-entry-requires same-length returns remove-old-requires recount-requires same-length-2 returns-2)

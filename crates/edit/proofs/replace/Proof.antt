@@ -5,24 +5,24 @@ use borrow.Author.Needs.{needs}
 use Rattle.edit.proofs.replace.Statement.{statement}
 use Rattle.edit.proofs.replace.Tie as tie
 
-take-out-requires : tie.Need-take-out-requires
-take-out-requires c κs =
+remove-old-requires : tie.Need-remove-old-requires
+remove-old-requires c κs =
     let start = c .before .before .before .before in
     let asks = start .pre in (asks .framed, asks .oldFits)
 
 place-at-requires : tie.Need-place-at-requires
 place-at-requires c κs =
-    let p = c .before .before .before in let take-out = p .take-out in
+    let p = c .before .before .before in let remove-old = p .remove-old in
     let asks = p .before .before .before .before .before .pre in
-    rw (take-out .ensures) (asks .places)
+    rw (remove-old .ensures) (asks .places)
 
 settle-requires : tie.Need-settle-requires
 settle-requires c κs =
     let p = c .before .before .before in let place-at = p .place-at in
-    let p = p .before .before .before .before in let take-out = p .take-out in
+    let p = p .before .before .before .before in let remove-old = p .remove-old in
     let asks = p .before .before .before .before .before .pre in
     record {
-      framed = framed-again (place-at .kept .1 .0 ∙ take-out .kept .1 .0) (asks .framed);
+      framed = framed-again (place-at .kept .1 .0 ∙ remove-old .kept .1 .0) (asks .framed);
       tierIn = asks .places .write .tier .tierIn;
       otherIn = asks .oldFits .tierIn;
     }
@@ -34,10 +34,10 @@ returns : tie.Need-returns
 returns c =
     let p = c .before .before in let settle = p .settle in
     let p = p .before .before .before .before in let place-at = p .place-at in
-    let p = p .before .before .before .before in let take-out = p .take-out in
+    let p = p .before .before .before .before in let remove-old = p .remove-old in
     let start = p .before .before .before .before .before in
     replaced-is (start .args .z) (start .args .img .now) (start .args .old) (start .args .t) (start .args .c) (start .args .key .now)
-    (start .args .value .now) (take-out .ensures) (place-at .ensures) (settle .ensures)
+    (start .args .value .now) (remove-old .ensures) (place-at .ensures) (settle .ensures)
 
 pub replace-spec : {M : Type 1} → statement M
-replace-spec = tie.close (tie.spec take-out-requires place-at-requires settle-requires same-length returns)
+replace-spec = tie.close (tie.spec remove-old-requires place-at-requires settle-requires same-length returns)

@@ -1,13 +1,13 @@
 use mathlib.Core.Path.{_∙_}
-use Rattle.edit.proofs.Replacing.{out-none, out-some}
+use Rattle.edit.proofs.Replacing.{withoutOld-none, withoutOld-some}
 use borrow.Author.Needs.{needs}
-use Rattle.edit.proofs.take_out.Statement.{statement}
-use Rattle.edit.proofs.take_out.Tie as tie
+use Rattle.edit.proofs.remove_old.Statement.{statement}
+use Rattle.edit.proofs.remove_old.Tie as tie
 
 returns : tie.Need-returns
 returns c =
     let start = c .before .before .before in
-    out-none (start .args .z) (start .args .img .now) (start .args .old) (c .if1 .taken)
+    withoutOld-none (start .args .z) (start .args .img .now) (start .args .old) (c .if1 .taken)
 
 remove-at-requires : tie.Need-remove-at-requires
 remove-at-requires c κs =
@@ -25,7 +25,7 @@ returns-2 : tie.Need-returns-2
 returns-2 c =
     let p = c .before .before .before .before in let if1 = p .if1 in
     let start = p .before .before .before in
-    c .before .before .remove-at .ensures ∙ out-some (start .args .z) (start .args .img .now) (start .args .old) (if1 .left)
+    c .before .before .remove-at .ensures ∙ withoutOld-some (start .args .z) (start .args .img .now) (start .args .old) (if1 .left)
 
-pub take-out-spec : {M : Type 1} → statement M
-take-out-spec = tie.close (tie.spec returns remove-at-requires same-length returns-2)
+pub remove-old-spec : {M : Type 1} → statement M
+remove-old-spec = tie.close (tie.spec returns remove-at-requires same-length returns-2)
