@@ -123,6 +123,14 @@ FAULTS = [
   "        let known = CHANNELS", "        let (a, b) = (a & 0xFF, b & 0xFF);\n        let known = CHANNELS"),
  ("a record longer than a delay is read", "pairs.rs",
   "let bytes = record.try_into().map_err(|_| number::DELAY)?;", "let bytes = *record.first_chunk().ok_or(number::DELAY)?;"),
+ ("a record of 128 or 16,384 bytes is measured with a length a byte too short", "record.rs",
+  "leb128::size(value.len()) + value.len()", "leb128::size(value.len().saturating_sub(1)) + value.len()"),
+ ("a key of 128 bytes is measured with a length of one byte", "record.rs",
+  "leb128::size(key.len()) + key.len()", "leb128::size(key.len() - 1) + key.len()"),
+ ("an empty record is measured without its length", "record.rs",
+  "leb128::size(value.len()) + value.len()", "leb128::size(value.len()) * value.len().min(1) + value.len()"),
+ ("128 and 16,384 are written a byte too short", "leb128.rs",
+  "    let size = size(number);\n", "    let size = size(number.saturating_sub(1));\n"),
 ]
 
 def prepare():

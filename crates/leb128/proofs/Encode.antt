@@ -1,10 +1,10 @@
--- Laws of the shortest form, and what the loops that measure and write one keep.
-use Prim.Native.Nat.{ℕ, zero, suc, _+_, _-_, _*_, _/_, _%_, _^_, _≤_, _<_}
+-- Laws of the shortest form, and what the loop that writes one keeps.
+use Prim.Native.Nat.{ℕ, zero, suc, _+_, _-_, _/_, _%_, _^_, _≤_, _<_}
 use mathlib.Core.List.{List, [], _∷_}
 use mathlib.Core.Path.{_≡_, refl, ap, _∙_}
 use mathlib.Core.Logic.{⊎-elim}
 use native.Mathlib.Omega.{arith}
-use native.Mathlib.Nat.{pow-suc, sub-self}
+use native.Mathlib.Nat.{pow-suc}
 use native.Mathlib.Numerals.{add-one}
 use borrow.Author.Tests.{lt-ltb, le-ltb}
 use lib.ListN.{length, set, length-set}
@@ -15,12 +15,12 @@ use Rattle.leb128.specs.Leb128.{encodeWithin, encode}
 
 -- ---- one byte
 
-encodeWithin-last : (k n : ℕ) → n < 128 → encodeWithin k n ≡ n ∷ []
+pub encodeWithin-last : (k n : ℕ) → n < 128 → encodeWithin k n ≡ n ∷ []
 unfolding encodeWithin
 encodeWithin-last zero n h = refl
 encodeWithin-last (suc k) n h = rw (lt-ltb n 128 h, encodeWithin)
 
-encodeWithin-more : (k n : ℕ) → 128 ≤ n → encodeWithin (suc k) n ≡ (128 + n % 128) ∷ encodeWithin k (n / 128)
+pub encodeWithin-more : (k n : ℕ) → 128 ≤ n → encodeWithin (suc k) n ≡ (128 + n % 128) ∷ encodeWithin k (n / 128)
 unfolding encodeWithin
 encodeWithin-more k n h = rw (le-ltb n 128 h, encodeWithin)
 
@@ -73,72 +73,77 @@ length-encode n h =
     (lt-or n 16384))
     (lt-or n 128)
 
--- ---- the loops: k bytes are done, and what is left has the form of `rest`
+-- ---- the loop that writes: the code of `rest` is left, in `left` bytes from place `next`
 
-pub record Encoding (n k rest : ℕ) : Type 0 where
-  pub low : k ≤ 9
-  pub fits : rest < 128 ^ (10 - k)
-  pub left : k + length (encodeWithin (9 - k) rest) ≡ length (encode n)
-
-pub encoding-starts : (n : ℕ) → n < 2 ^ 64 → Encoding n 0 n
-unfolding encode
-encoding-starts n h = record { low = omega arith; fits = omega arith; left = omega arith }
-
-pub encoding-turns : {n k rest : ℕ} → Encoding n k rest → 128 ≤ rest → Encoding n (k + 1) (rest / 128)
-encoding-turns {n} {k} {rest} e h =
+code-some : (more n : ℕ) → 1 ≤ length (encodeWithin more n)
+unfolding encodeWithin
+code-some zero n = omega arith
+code-some (suc more) n =
     ⊎-elim
-    (λ (a : k < 9).
-    let f : 10 - k ≡ suc (10 - (k + 1)) = omega arith in
-    let g : 9 - k ≡ suc (9 - (k + 1)) = omega arith in
-    let fits : rest < 128 ^ (10 - k) = e .fits in
-    let left : k + length (encodeWithin (9 - k) rest) ≡ length (encode n) = e .left in
-    let fits′ : rest < 128 ^ (10 - (k + 1)) * 128 = rw (f, pow-suc) at fits in
-    let left′ : k + suc (length (encodeWithin (9 - (k + 1)) (rest / 128))) ≡ length (encode n) = rw (g, encodeWithin-more (9 - (k + 1)) rest h) at left in
-    record { low = omega arith; fits = omega arith; left = omega arith })
-    (λ (a : 9 ≤ k).
-    let f : k ≡ 9 = omega (arith, e .low) in
-    let fits : rest < 128 ^ (10 - k) = e .fits in
-    let small : rest < 128 = rw f at fits in
-    absurd (omega arith))
-    (lt-or k 9)
+    (λ (a : n < 128). rw (encodeWithin-last (suc more) n a) (omega arith))
+    (λ (a : 128 ≤ n). rw (encodeWithin-more more n a) (omega arith))
+    (lt-or n 128)
 
-pub encoding-ends : {n k rest : ℕ} → Encoding n k rest → rest < 128 → k + 1 ≡ length (encode n)
-encoding-ends {n} {k} {rest} e h =
-    let f : length (encodeWithin (9 - k) rest) ≡ 1 = ap length (encodeWithin-last (9 - k) rest h) in
-    omega (arith, e .left)
+-- more than one byte: a number of at least 128
+code-more : (more n : ℕ) → 1 < length (encodeWithin more n) → (m : ℕ) × (more ≡ suc m) × (128 ≤ n)
+unfolding encodeWithin
+code-more zero n h = absurd (omega arith)
+code-more (suc more) n h =
+    ⊎-elim
+    (λ (a : n < 128). let one : length (encodeWithin (suc more) n) ≡ 1 = ap length (encodeWithin-last (suc more) n a) in absurd (omega arith))
+    (λ (a : 128 ≤ n). (more, refl, a))
+    (lt-or n 128)
 
-pub encoding-lt : {n k rest : ℕ} → Encoding n k rest → k < length (encode n)
-encoding-lt {n} {k} {rest} e =
-    ⊎-elim (λ (a : rest < 128). omega (arith, encoding-ends e a)) (λ (a : 128 ≤ rest). omega (arith, encoding-turns e a .left)) (lt-or rest 128)
+-- one byte: a number below 128
+code-last : (more n : ℕ) → n < 128 ^ suc more → length (encodeWithin more n) ≤ 1 → n < 128
+code-last zero n f h = omega arith
+code-last (suc more) n f h =
+    ⊎-elim
+    (λ (a : n < 128). a)
+    (λ (a : 128 ≤ n).
+    let two : length (encodeWithin (suc more) n) ≡ suc (length (encodeWithin more (n / 128))) = ap length (encodeWithin-more more n a) in
+    absurd (omega (arith, code-some more (n / 128))))
+    (lt-or n 128)
 
--- the same with what is written: the bytes that are left give the whole
-pub record WritingCode (l₀ : List ℕ) (at n : ℕ) (l : List ℕ) (next rest : ℕ) : Type 0 where
-  pub from : at ≤ next
-  pub done : Encoding n (next - at) rest
+pub record WritingCode (l₀ : List ℕ) (at n : ℕ) (l : List ℕ) (left rest next : ℕ) : Type 0 where
+  pub more : ℕ
+  pub fits : rest < 128 ^ suc more
+  pub bytes : length (encodeWithin more rest) ≡ left
+  pub end : next + left ≡ at + length (encode n)
   pub long : length l ≡ length l₀
-  pub is : sets l next (encodeWithin (9 - (next - at)) rest) ≡ sets l₀ at (encode n)
+  pub is : sets l next (encodeWithin more rest) ≡ sets l₀ at (encode n)
 
-pub write-starts : (l : List ℕ) (at n : ℕ) → n < 2 ^ 64 → WritingCode l at n l at n
+pub write-starts : (l : List ℕ) (at n : ℕ) → n < 2 ^ 64 → WritingCode l at n l (length (encode n)) n at
 unfolding encode
-write-starts l at n h = record { from = omega arith; done = rw sub-self (encoding-starts n h); long = refl; is = rw sub-self }
+write-starts l at n h = record { more = 9; fits = omega arith; bytes = refl; end = refl; long = refl; is = refl }
 
-pub write-turns : {l₀ : List ℕ} {at n : ℕ} {l : List ℕ} {next rest : ℕ} → WritingCode l₀ at n l next rest → 128 ≤ rest
-    → WritingCode l₀ at n (set l next (128 + rest % 128)) (next + 1) (rest / 128)
-write-turns {l₀} {at} {n} {l} {next} {rest} w h =
-    let from : at ≤ next = w .from in
-    let one : next + 1 - at ≡ next - at + 1 = omega arith in
-    let done : Encoding n (next - at + 1) (rest / 128) = encoding-turns (w .done) h in
-    let g : 9 - (next - at) ≡ suc (9 - (next - at + 1)) = omega (arith, done .low) in
-    let is : sets l next (encodeWithin (9 - (next - at)) rest) ≡ sets l₀ at (encode n) = w .is in
+pub write-some : {l₀ : List ℕ} {at n : ℕ} {l : List ℕ} {left rest next : ℕ} → WritingCode l₀ at n l left rest next → 1 ≤ left
+write-some {rest = rest} w = omega (arith, w .bytes, code-some (w .more) rest)
+
+pub write-turns : {l₀ : List ℕ} {at n : ℕ} {l : List ℕ} {left rest next : ℕ} → WritingCode l₀ at n l left rest next → 1 < left
+    → WritingCode l₀ at n (set l next (128 + rest % 128)) (left - 1) (rest / 128) (next + 1)
+write-turns {l₀} {at} {n} {l} {left} {rest} {next} w h =
+    let split : (m : ℕ) × (w .more ≡ suc m) × (128 ≤ rest) = code-more (w .more) rest (omega (arith, w .bytes)) in
+    let m : ℕ = split .0 in
+    let code : encodeWithin (w .more) rest ≡ (128 + rest % 128) ∷ encodeWithin m (rest / 128) =
+    ap (λ (k : ℕ). encodeWithin k rest) (split .1) ∙ encodeWithin-more m rest (split .2) in
+    let fits : rest < 128 ^ suc (w .more) = w .fits in
+    let bytes : length (encodeWithin (w .more) rest) ≡ left = w .bytes in
+    let is : sets l next (encodeWithin (w .more) rest) ≡ sets l₀ at (encode n) = w .is in
     record {
-      from = omega arith;
-      done = rw one done;
+      more = m;
+      fits = omega (arith, rw (split .1, pow-suc) at fits);
+      bytes = omega (arith, rw code at bytes);
+      end = omega (arith, w .end);
       long = length-set l next _ ∙ w .long;
-      is = rw (one, add-one next) (rw (g, encodeWithin-more (9 - (next - at + 1)) rest h) at is);
+      is = rw (add-one next) (rw code at is);
     }
 
-pub write-ends : {l₀ : List ℕ} {at n : ℕ} {l : List ℕ} {next rest : ℕ} → WritingCode l₀ at n l next rest → rest < 128
+pub write-last : {l₀ : List ℕ} {at n : ℕ} {l : List ℕ} {left rest next : ℕ} → WritingCode l₀ at n l left rest next → left ≤ 1 → rest < 128
+write-last {rest = rest} w h = code-last (w .more) rest (w .fits) (omega (arith, w .bytes))
+
+pub write-ends : {l₀ : List ℕ} {at n : ℕ} {l : List ℕ} {left rest next : ℕ} → WritingCode l₀ at n l left rest next → left ≤ 1
     → (next + 1 ≡ at + length (encode n)) × (set l next rest ≡ sets l₀ at (encode n))
-write-ends {l₀} {at} {n} {l} {next} {rest} w h =
-    let is : sets l next (encodeWithin (9 - (next - at)) rest) ≡ sets l₀ at (encode n) = w .is in
-    (omega (arith, encoding-ends (w .done) h, w .from), rw (encodeWithin-last (9 - (next - at)) rest h) at is)
+write-ends {l₀} {at} {n} {l} {left} {rest} {next} w h =
+    let is : sets l next (encodeWithin (w .more) rest) ≡ sets l₀ at (encode n) = w .is in
+    (omega (arith, w .end, write-some w), rw (encodeWithin-last (w .more) rest (write-last w h)) at is)

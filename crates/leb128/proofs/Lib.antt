@@ -1,2 +1,3 @@
 pub mod Encode
+pub mod Digits
 pub mod Decode

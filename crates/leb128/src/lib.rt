@@ -17,17 +17,11 @@ fn wide(x: u8) -> usize
     x as usize
 }
 
-// How many bytes n takes.
+// How many bytes n takes: one for each seven bits up to its highest. The lowest bit is set first, so that 0 has a highest bit too.
 pub fn size(n: usize) -> usize
     ensures { λ r. ⌜ r ≡ length (encode n) ⌝ }
 {
-    let mut rest = n;
-    let mut k = 0;
-    while 128 <= rest {
-        rest = rest / 128;
-        k += 1;
-    }
-    k + 1
+    (63 - u64::leading_zeros(n as u64 | 1) as usize) / 7 + 1
 }
 
 // The length at a place.
@@ -69,12 +63,15 @@ pub fn write(s: &mut [u8], at: usize, n: usize) -> usize
     requires { ⌜ at + length (encode n) ≤ length (now s) ⌝ }
     ensures { λ r. ⌜ (r ≡ at + length (encode n)) × (now (s .exit) ≡ sets (now (s .entry)) at (encode n)) ⌝ }
 {
+    let mut left = size(n);
     let mut rest = n;
     let mut next = at;
-    while 128 <= rest {
+    // down to 1: a loop that counts up to the size is unrolled, which doubles its code
+    while 1 < left {
         s[next] = (128 + rest % 128) as u8;
         rest = rest / 128;
         next += 1;
+        left -= 1;
     }
     s[next] = rest as u8;
     next + 1

@@ -28,13 +28,13 @@ fn written(s: &mut [u8], n: usize) {
     }
 }
 
-// A number, the bytes that it takes, which are to be so many, and the number read back.
+// A number, the bytes that it takes, which are to be so many, and the number read back: above 65,535 none is.
 fn number(n: usize, size: usize) {
     print::text(b"leb128 ");
     print::number(n as u64);
     print::space();
-    let mut s = [0u8; 3];
-    if size <= 3 {
+    let mut s = [0u8; 10];
+    if size <= 10 {
         written(&mut s[0..size], n);
     }
     print::end();
@@ -54,6 +54,29 @@ pub fn numbers() {
     number(32768, 3);
     number(65534, 3);
     number(65535, 3);
+    number(65536, 3);
+    number(2097151, 3);
+    number(2097152, 4);
+    number(2097153, 4);
+    number(268435455, 4);
+    number(268435456, 5);
+    number(268435457, 5);
+    number(34359738367, 5);
+    number(34359738368, 6);
+    number(34359738369, 6);
+    number(4398046511103, 6);
+    number(4398046511104, 7);
+    number(4398046511105, 7);
+    number(562949953421311, 7);
+    number(562949953421312, 8);
+    number(562949953421313, 8);
+    number(72057594037927935, 8);
+    number(72057594037927936, 9);
+    number(72057594037927937, 9);
+    number(9223372036854775807, 9);
+    number(9223372036854775808, 10);
+    number(9223372036854775809, 10);
+    number(18446744073709551615, 10);
 }
 
 // What is read at the front of s.

@@ -97,7 +97,7 @@ impl<'a> Pair<'a> {
         self.settle_edit(6, &format!("set of {a} {b} to {delay}"), ours, theirs)
     }
 
-    /// Counts that something planned for the pair calls came up.
+    /// Counts that something planned for lengths or for the pair calls came up.
     pub fn met(&mut self, what: String) {
         *self.tally.met.entry(what).or_default() += 1;
     }

@@ -145,6 +145,11 @@ pub fn offered_value(rng: &mut Rng, plan: &Plan, key: usize) -> Vec<u8> {
     let most = plan.most_chunks;
     let chunks = rng.between(1, most);
     let exactly = |chunks| plan.longest_value(key, chunks).unwrap_or(0);
+    // Few plans have room for the longest lengths; there they come up often.
+    if exactly(most) >= 16_383 && rng.percent(30) {
+        let length = *rng.pick(&[16_383, 16_384, 65_535, exactly(most).min(65_535)]);
+        return rng.bytes(length);
+    }
     let length = match rng.below(200) {
         0..20 => 0,
         20..60 => rng.below(12),

@@ -6,6 +6,7 @@ use std::collections::BTreeMap;
 
 use crate::compare::{Outcome, Pair};
 use crate::draw;
+use crate::lengths;
 use crate::oracle::Oracle;
 use crate::plan::{Plan, length_size};
 use crate::rng::Rng;
@@ -93,6 +94,9 @@ impl History<'_, '_> {
         self.expect("store", number, if refused != 0 { refused } else { full })?;
         if let Some(place) = place {
             self.stands_at(&key, &value, place)?;
+            for length in lengths::brought(key.len(), value.len()) {
+                self.pair.met(length);
+            }
             self.records.insert(key, value);
         }
         Ok(())

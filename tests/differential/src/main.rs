@@ -12,6 +12,7 @@ mod damage;
 mod defects;
 mod draw;
 mod history;
+mod lengths;
 mod model;
 mod oracle;
 mod plan;
