@@ -346,7 +346,8 @@ def chunk_faults(img, chains, free, rows):
             faults.add("bit clear")
         if img["count", t] != len(img.full(t)):
             faults.add("count")
-        if img["low", t] != img.lowest(t):
+        low, lowest = img["low", t], img.lowest(t)
+        if low > lowest or (lowest == img.st.chunks and low != lowest):
             faults.add("low")
     for t in free:
         if img.full(t):

@@ -10,5 +10,6 @@ pub mod Highest
 pub mod Told
 pub mod Refusing
 pub mod Altering
+pub mod LowMarks
 pub mod Worked
 pub mod Laws

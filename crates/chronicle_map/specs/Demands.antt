@@ -22,6 +22,8 @@ use Rattle.entries.specs.Live.{live}
 use Rattle.chunks.specs.Chunks.{covers}
 use Rattle.entries.specs.Pairs.{Pair}
 use Rattle.sound.specs.Sound.{ImageFits}
+use Rattle.counters.specs.LowMarks.{LowMarks}
+use Rattle.edit.specs.Edits.{removeTiers, storeTiers}
 use Rattle.image.specs.declared.Counts.{Counts}
 use Rattle.image.specs.declared.Outcome.{Outcome}
 use Rattle.image.specs.declared.Outcome.the-variants as outcome
@@ -108,6 +110,14 @@ pub record Demand2 (block img : List ℕ) : Type 0 where
   pub stored : (key value : List ℕ) → Bytes key → Bytes value → answerNumber (store block img key value .answer) ≡ 0
       → Alters block img (store block img key value .image) key (some (record { key = key; value = value }))
   pub removed : (key : List ℕ) → Bytes key → answerNumber (remove block img key .answer) ≡ 0 → Alters block img (remove block img key .image) key none
+
+-- ---- request A1, for an accepted image: the lowest free chunk fields after a store or a removal answered 0
+
+pub record LowMarksFollow (block img : List ℕ) : Type 0 where
+  pub stored : (key value : List ℕ) → Bytes key → Bytes value → answerNumber (store block img key value .answer) ≡ 0
+      → LowMarks (shape block img) img (store block img key value .image) (storeTiers (shape block img) img key value)
+  pub removed : (key : List ℕ) → answerNumber (remove block img key .answer) ≡ 0
+      → LowMarks (shape block img) img (remove block img key .image) (removeTiers (shape block img) img key)
 
 -- ---- demand 3, for an accepted image and any list of calls
 

@@ -1,4 +1,5 @@
--- The worked store X of the scope: its cases p1 to p10 as one list, each an image, the calls made on it, a question and what is due.
+-- The worked store X: the cases p1 to p10 of the scope and those of the requests that followed as one list, each an image, the calls made
+-- on it, a question and what is due.
 use Prim.Native.Nat.{ℕ}
 use mathlib.Core.List.{List, [], _∷_, _++_, map}
 use lib.ListN.{replicate}
@@ -38,8 +39,11 @@ after3 = after2 ++ (stores (pair 2 1) (240 ∷ 255 ∷ 255 ∷ 255 ∷ []) ∷ [
 abbrev pub after4 : List Call
 after4 = after3 ++ (stores (pair 3 1) (four 31) ∷ [])
 
+abbrev pub store5 : List Call
+store5 = stores (pair 1 3) (four 13) ∷ []
+
 abbrev pub after5 : List Call
-after5 = after4 ++ (stores (pair 1 3) (four 13) ∷ [])
+after5 = after4 ++ store5
 
 abbrev pub after6 : List Call
 after6 = after5 ++ (stores (pair 4 1) (four 41) ∷ stores (pair 5 1) (four 51) ∷ stores (pair 6 1) (four 61) ∷ [])
@@ -49,6 +53,25 @@ after7 = after4 ++ (removes (pair 1 2) ∷ [])
 
 abbrev pub after8 : List Call
 after8 = after4 ++ (stores (pair 1 2) (1 ∷ 2 ∷ 3 ∷ 4 ∷ 5 ∷ []) ∷ [])
+
+-- the image after some calls, and then another number in the first byte of the main tier's lowest free chunk field
+abbrev pub withLow : List ℕ → List Call → ℕ → List ℕ
+withLow img calls low = putLe (run blockX img calls) 76 1 low
+
+-- that field is 0, though the lowest clear chunk is 3
+abbrev pub lagging4 : List ℕ
+lagging4 = withLow imageX after4 0
+
+abbrev pub without21 : List Call
+without21 = store5 ++ (removes (pair 2 1) ∷ [])
+
+-- two entries of four chunks each: no chunk is clear
+abbrev pub filled : List Call
+filled = stores (pair 1 2) (replicate 28 0) ∷ stores (pair 2 1) (replicate 28 0) ∷ []
+
+-- 01 02 with five bytes in chunks 0 and 1, then with four
+abbrev pub shorter : List Call
+shorter = stores (pair 1 2) (1 ∷ 2 ∷ 3 ∷ 4 ∷ 5 ∷ []) ∷ stores (pair 1 2) (four 12) ∷ []
 
 -- ---- a case: calls made on an image, then a question, and what is due
 
@@ -139,4 +162,30 @@ cases =
     -- p10
     ∷ case (sized 495) [] checks (4 ∷ 0 ∷ 0 ∷ 0 ∷ 0 ∷ [])
     ∷ case (putLe imageX 224 1 1) [] checks (7 ∷ 0 ∷ 0 ∷ 0 ∷ 0 ∷ [])
+    -- A1: a field at most the lowest clear chunk is accepted, a higher one is not
+    ∷ case imageX after4 (bytes 76 4) (3 ∷ 0 ∷ 0 ∷ 0 ∷ [])
+    ∷ case lagging4 [] checks (0 ∷ 3 ∷ 3 ∷ 1 ∷ 1 ∷ [])
+    ∷ case (withLow imageX after4 1) [] checks (0 ∷ 3 ∷ 3 ∷ 1 ∷ 1 ∷ [])
+    ∷ case (withLow imageX after4 2) [] checks (0 ∷ 3 ∷ 3 ∷ 1 ∷ 1 ∷ [])
+    ∷ case (withLow imageX after4 4) [] checks (7 ∷ 0 ∷ 0 ∷ 0 ∷ 0 ∷ [])
+    -- a store in tier 2 leaves tier 1's field as it is
+    ∷ case lagging4 store5 (bytes 76 4) (0 ∷ 0 ∷ 0 ∷ 0 ∷ [])
+    ∷ case lagging4 store5 (bytes 376 8) (1 ∷ 0 ∷ 0 ∷ 0 ∷ 0 ∷ 0 ∷ 0 ∷ 0 ∷ [])
+    -- a removal writes the lowest clear chunk: when chunk 1 is freed, and when it was clear before and the field was 0 again
+    ∷ case lagging4 without21 (bytes 224 1) (5 ∷ [])
+    ∷ case lagging4 without21 (bytes 76 4) (1 ∷ 0 ∷ 0 ∷ 0 ∷ [])
+    ∷ case (withLow lagging4 without21 0) (removes (pair 3 1) ∷ []) (bytes 224 1) (1 ∷ [])
+    ∷ case (withLow lagging4 without21 0) (removes (pair 3 1) ∷ []) (bytes 76 4) (1 ∷ 0 ∷ 0 ∷ 0 ∷ [])
+    -- a full tier has 8 there and nothing else
+    ∷ case imageX filled (bytes 224 1) (255 ∷ [])
+    ∷ case imageX filled (bytes 76 4) (8 ∷ 0 ∷ 0 ∷ 0 ∷ [])
+    ∷ case imageX filled checks (0 ∷ 2 ∷ 8 ∷ 1 ∷ 1 ∷ [])
+    ∷ case (withLow imageX filled 7) [] checks (7 ∷ 0 ∷ 0 ∷ 0 ∷ 0 ∷ [])
+    ∷ case (withLow imageX filled 0) [] checks (7 ∷ 0 ∷ 0 ∷ 0 ∷ 0 ∷ [])
+    ∷ case (withLow imageX filled 9) [] checks (7 ∷ 0 ∷ 0 ∷ 0 ∷ 0 ∷ [])
+    -- a replacement in the chunk that it frees writes the exact number
+    ∷ case (withLow imageX after2 0) (stores (pair 1 2) (four 12) ∷ []) (bytes 76 4) (1 ∷ 0 ∷ 0 ∷ 0 ∷ [])
+    -- the old entry's chunks are below the field, and the new one goes there
+    ∷ case imageX (after4 ++ (stores (pair 1 2) (four 12) ∷ [])) (lists 2) (0 ∷ 0 ∷ 1 ∷ 3 ∷ 0 ∷ 1 ∷ 2 ∷ 4 ∷ [])
+    ∷ case imageX shorter (lists 0) (0 ∷ 0 ∷ 1 ∷ 1 ∷ 0 ∷ 1 ∷ 2 ∷ 4 ∷ [])
     ∷ []

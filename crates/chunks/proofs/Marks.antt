@@ -3,6 +3,7 @@ use Prim.Native.Nat.{ℕ, _+_, _≤_, _<_}
 use mathlib.Core.List.{List}
 use mathlib.Core.Path.{_≡_, refl, _∙_, subst}
 use mathlib.Core.Logic.{⊎-elim, _≢_}
+use mathlib.Core.Bool.{false}
 use native.Mathlib.Omega.{arith}
 use native.Mathlib.Nat.{zero-add}
 use lib.Dec.{eqb}
@@ -19,7 +20,8 @@ use Rattle.chunks.specs.declared.Compared.the-variants.{Same, Differ}
 use Rattle.chunks.specs.Chunks.{clear, lowestClear, markedIn}
 pub use Rattle.chunks.specs.Counting.{markedBelow}
 use Rattle.chunks.specs.Counting.{MarksBelow}
-use Rattle.lists.proofs.Rows.{first-span-at, first-span-none, howMany-more, howMany-less}
+use Rattle.lists.proofs.Rows.{first-span-at, first-span-none, before-first, howMany-more, howMany-less}
+use Rattle.lists.proofs.SameLists.{first-le}
 
 module _ (z : Shape) (img : List ℕ) (t : ℕ) where
   -- ---- how many are marked
@@ -72,3 +74,12 @@ module _ (z : Shape) (img : List ℕ) (t : ℕ) where
       let g : first (below (z .settings .chunks)) (clear z img t) ≡ mathlib.Core.Option.none =
       first-span-none (clear z img t) 0 (z .settings .chunks) (λ i l. rw zero-add (ne-eqb (mark z img t i) 0 (f i l))) in
       rw g
+
+  pub lowest-few : lowestClear z img t ≤ z .settings .chunks
+  unfolding lowestClear
+  lowest-few = first-le (clear z img t) 0 (z .settings .chunks) (z .settings .chunks) (omega arith)
+
+  pub below-lowest : Below (lowestClear z img t) (λ i. clear z img t i ≡ false)
+  unfolding lowestClear
+  below-lowest i h =
+      before-first (clear z img t) 0 (z .settings .chunks) (z .settings .chunks) i (omega arith) (omega (arith, lowest-few)) h

@@ -1,13 +1,13 @@
 -- Chunks and counters: refusal 7.
-use Prim.Native.Nat.{ℕ, _+_}
+use Prim.Native.Nat.{ℕ, _+_, _≤_}
 use mathlib.Core.List.{List}
 use mathlib.Core.Path.{_≡_}
 use mathlib.Core.Bool.{Bool, _&&_}
-use native.Mathlib.Decide.{ℕ-discrete}
+use native.Mathlib.Decide.{decLe, ℕ-discrete}
 use lib.Dec.{leb, ltb, eqb}
 use lib.ListN.{length}
 use Rattle.lists.specs.Lists.{below, first, howMany, total, orElse}
-use Rattle.lists.specs.Decide.{rule}
+use Rattle.lists.specs.Decide.{rule, implied}
 use Rattle.lists.specs.Quantify.{Below, Every, below?, every?}
 use Rattle.settings.specs.declared.Settings.{Settings}
 use Rattle.layout.specs.declared.Shape.{Shape}
@@ -31,11 +31,17 @@ module _ (z : Shape) (img : List ℕ) where
   unfoldable pub lowestClear : ℕ → ℕ
   lowestClear t = orElse (first (below chunks) (clear t)) chunks
 
+  -- the lowest free chunk field
+  abbrev pub lowField : ℕ → ℕ
+  lowField t = get z img (lowPlace z t)
+
   -- ---- the rules
 
-  -- the lowest free chunk field of a tier; other crates know it by its laws alone (proofs/LowMark.antt)
+  -- no clear chunk is below the lowest free chunk field, and a tier without a clear chunk has N there; other crates know this rule by its
+  -- laws alone (proofs/LowMark.antt)
   pub record LowMarkFits (t : ℕ) : Type 0 where
-    pub exact : get z img (lowPlace z t) ≡ lowestClear t
+    pub noneBelow : lowField t ≤ lowestClear t
+    pub whenFull : lowestClear t ≡ chunks → lowField t ≡ chunks
 
   -- the two counters that an edit of the tier changes
   pub record CountersFit (t : ℕ) : Type 0 where
@@ -61,7 +67,10 @@ module _ (z : Shape) (img : List ℕ) where
   -- ---- decided
 
   unfoldable pub lowMarkFits? : (t : ℕ) → Dec (LowMarkFits t)
-  lowMarkFits? t = rule (λ v. v .exact) (ℕ-discrete (get z img (lowPlace z t)) (lowestClear t)) λ a. yes (record { exact = a })
+  lowMarkFits? t =
+      rule (λ v. v .noneBelow) (decLe (lowField t) (lowestClear t)) λ a.
+      rule (λ v. v .whenFull) (implied (ℕ-discrete (lowestClear t) chunks) λ _. ℕ-discrete (lowField t) chunks) λ b.
+      yes (record { noneBelow = a; whenFull = b })
 
   unfoldable pub countersFit? : (t : ℕ) → Dec (CountersFit t)
   countersFit? t =

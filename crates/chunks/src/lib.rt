@@ -169,16 +169,20 @@ pub fn lowest_clear(z: Shape, img: &[u8], t: usize) -> usize
     i
 }
 
-// Whether the lowest free chunk field of a tier fits.
+// Whether the lowest free chunk field of a tier fits: it may be lower than the lowest clear chunk, but not where no chunk is clear.
 pub fn low_mark_fits(z: Shape, img: &[u8], t: usize) -> bool
     requires { ⌜ FramedTier z (now img) t ⌝ }
     ensures { λ r. ⌜ Decides r (LowMarkFits z (now (img .entry)) t) ⌝ }
 {
     let low = lowest_clear(z, img, t);
-    if layout::read::low_of(z, img, t) != low as u64 {
+    let field = layout::read::low_of(z, img, t);
+    if (low as u64) < field {
         return false;
     }
-    true
+    if low < z.settings.chunks {
+        return true;
+    }
+    field == low as u64
 }
 
 // Whether all chunks of a tier are clear.

@@ -12,8 +12,6 @@ use Rattle.layout.specs.declared.Shape.{Shape}
 use Rattle.layout.specs.Places.{entryCount, lowestFree, low, count, wide, lowPlace, countPlace}
 use Rattle.layout.proofs.Places.{shared-is, shared-wide-main, shared-wide-extra}
 use Rattle.entries.specs.Live.{slotAt, fullSlots}
-use Rattle.chunks.specs.Chunks.{clear, lowestClear}
-use Rattle.lists.proofs.SameLists.{first-le}
 
 module _ (z : Shape) (t : ℕ) where
   pub count-room : 4096 < 256 ^ wide z (countPlace z t)
@@ -31,7 +29,3 @@ module _ (z : Shape) (img : List ℕ) (t : ℕ) where
   unfolding fullSlots
   full-few =
       omega (arith, howMany-le (λ j. not (eqb (slotAt z img t j) 0)) (below (z .settings .slots)), length-span 0 (z .settings .slots))
-
-  pub lowest-few : lowestClear z img t ≤ z .settings .chunks
-  unfolding lowestClear
-  lowest-few = first-le (clear z img t) 0 (z .settings .chunks) (z .settings .chunks) (omega arith)

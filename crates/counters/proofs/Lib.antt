@@ -1,4 +1,5 @@
 -- A tier that is recounted.
 pub mod CountRoom
 pub mod Recounting
+pub mod LowMarks
 pub mod FullCount

@@ -20,14 +20,15 @@ use Rattle.layout.proofs.Chunks.{cut-chunks}
 use Rattle.chains.specs.Chains.{chain}
 use Rattle.chains.proofs.Chained.{IsChained}
 use Rattle.entries.specs.Live.{fullSlots}
-use Rattle.chunks.specs.Chunks.{lowestClear, CountersFit}
+use Rattle.chunks.specs.Chunks.{lowestClear, lowField, CountersFit}
+use Rattle.chunks.proofs.Marks.{lowest-few}
 use Rattle.chunks.proofs.LowMark.{low-mark-exact}
 use Rattle.entries.specs.Pairs.{Pair, pairsOf}
 use Rattle.sound.specs.Sound.{SoundImage, SoundBut}
 use Rattle.counters.specs.Recount.{recount, settle}
 use Rattle.chains.proofs.Tiers.{chain-tiers}
 use Rattle.sound.proofs.Sound.{sound-image, but-sound}
-use Rattle.counters.proofs.CountRoom.{count-room, low-room, full-few, lowest-few}
+use Rattle.counters.proofs.CountRoom.{count-room, low-room, full-few}
 use Rattle.sound.proofs.AgreeTier.{SameTier, same-full, same-lowest, same-weigh}
 use Rattle.chains.proofs.AgreeChains.{SameChains, same-chain}
 use Rattle.sound.proofs.Replaced.{OnlyTier, tier-stays, tier-replaced, pairs-replaced}
@@ -153,11 +154,14 @@ module _ (z : Shape) (img : List ℕ) (s t : ℕ) (hs : s < z .settings .segment
       get-same (image-put im (countPlace z t) (length (fullSlots z img t))) (lowPlace z t) (lowestClear z img t) (shared-in z lowestFree low t it)
       (omega (arith, low-room z t, lowest-few z img t, sound .fits .valid .chunks))
 
+  pub recount-exact : lowField z (recount z img t) t ≡ lowestClear z (recount z img t) t
+  recount-exact = low-written ∙ sym (same-lowest z img after t recount-tier)
+
   written-counters : CountersFit z after t
   written-counters =
       record {
         entryCount = count-written ∙ ap length (sym (same-full z img after t recount-tier));
-        lowMark = low-mark-exact (low-written ∙ sym (same-lowest z img after t recount-tier));
+        lowMark = low-mark-exact recount-exact;
       }
 
   pub recount-sound : SoundBut z (recount z img t) but
@@ -196,7 +200,7 @@ module _ (z : Shape) (img : List ℕ) (s t : ℕ) (hs : s < z .settings .segment
 -- ---- the counters of several tiers
 
 module _ (z : Shape) where
-  recount-chained : (img : List ℕ) (t : ℕ) {but : List ℕ} → SoundBut z img (t ∷ but) → IsChained z img t → (u : ℕ) → IsChained z img u
+  pub recount-chained : (img : List ℕ) (t : ℕ) {but : List ℕ} → SoundBut z img (t ∷ but) → IsChained z img t → (u : ℕ) → IsChained z img u
       → IsChained z (recount z img t) u
   recount-chained img t sound c u d =
       let same : chain z (recount z img t) (d .0) ≡ chain z img (d .0) =

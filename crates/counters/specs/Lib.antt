@@ -1,2 +1,3 @@
 pub mod Recount
+pub mod LowMarks
 pub mod Asking

@@ -12,6 +12,8 @@ use Rattle.settings.specs.declared.Settings.{Settings}
 use Rattle.layout.specs.declared.Shape.{Shape}
 use Rattle.layout.specs.Tiers.{IsTier}
 use Rattle.layout.specs.Frame.{Framed}
+use Rattle.lists.specs.Quantify.{Below, Every}
+use Rattle.chains.specs.Chains.{chain}
 use Rattle.chains.proofs.Tiers.{chain-tiers}
 use Rattle.entries.specs.declared.Entry.{Entry}
 use Rattle.entries.specs.declared.Live.{Live}
@@ -25,6 +27,7 @@ use Rattle.search.specs.declared.Found.{Found}
 use Rattle.search.specs.declared.Found.the-variants.{At, Absent}
 use Rattle.search.specs.Search.{search, ChainTiers}
 use Rattle.search.specs.Rules.{EntryFits, keyAt}
+use Rattle.chunks.specs.Chunks.{LowMarkFits}
 use Rattle.sound.specs.Sound.{SoundWith, SoundImage}
 use Rattle.counters.specs.Recount.{recount, settle, touched}
 use Rattle.sound.proofs.Sound.{sound-image}
@@ -77,7 +80,10 @@ module _ (z : Shape) (img : List ℕ) {C : Type 0} (sound : SoundWith C z img) w
 
 module _ (z : Shape) (img : List ℕ) (sound : SoundImage z img) where
   open Shape z using (settings)
-  open Settings settings using (slots, chunks)
+  open Settings settings using (segments, slots, chunks)
+
+  pub sound-lows : Below segments (λ s. Every (chain z img s) (LowMarkFits z img))
+  sound-lows s h t m = sound .fits .chunks .tiersFit s h t m .counters .lowMark
 
   -- a live entry's tier, slot and chunks
   pub live-tier : (e : Live) → IsLive z img e → IsTier z (e .tier)

@@ -28,9 +28,9 @@ use Rattle.placement.specs.Placement.{placeAt}
 use Rattle.placement.proofs.Before.{can-place}
 use Rattle.joining.specs.Joining.{join}
 use Rattle.joining.proofs.Ends.{new-tier, used-small}
-use Rattle.edit.specs.Edits.{find, without, runOf, noRoom, placeIn, tierOf, storeImage}
+use Rattle.edit.specs.Edits.{find, without, left, runOf, noRoom, placeIn, tierOf, storeImage}
 use Rattle.edit.specs.Replaced.{oldOf, withoutOld, replacedOld, extendedOld, Stores, Storable, Replaces, Extends}
-use Rattle.edit.proofs.Without.{left, without-sound, without-head}
+use Rattle.edit.proofs.Without.{without-sound, without-head}
 use Rattle.edit.proofs.Replacing.{sound-framed, sound-tiers, old-fits, withoutOld-is, old-tier}
 use Rattle.edit.proofs.Scanning.{scan-is}
 use Rattle.edit.proofs.Storing.{fits-at, fits-free}

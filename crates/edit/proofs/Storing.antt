@@ -1,6 +1,6 @@
 -- A store for which the row of 10 does not hold: the image is sound, and has the new key and record beside all other keys.
 use Prim.Native.Nat.{ℕ, _+_, _≤_, _<_}
-use mathlib.Core.List.{List, _∷_, List·Memᴰ, List·Memᴰ·head, List·Memᴰ·cases-cons, List·Memᴰ·eq-of-singleton}
+use mathlib.Core.List.{List, _∷_, List·Memᴰ, List·Memᴰ·head, List·Memᴰ·tail, List·Memᴰ·cases-cons, List·Memᴰ·eq-of-singleton}
 use mathlib.Core.Path.{_≡_, refl, ap, sym, _∙_, subst}
 use mathlib.Core.Logic.{_≢_, ⊎-elim}
 use mathlib.Core.Bool.{true, false, not, _||_}
@@ -15,6 +15,7 @@ use Rattle.lists.specs.Quantify.{Every}
 use Rattle.words.specs.Bytes.{Bytes, same}
 use Rattle.settings.specs.declared.Settings.{Settings}
 use Rattle.layout.specs.declared.Shape.{Shape}
+use Rattle.layout.specs.Tiers.{IsTier}
 use Rattle.chains.specs.Chains.{chain, freeHead}
 use Rattle.chains.proofs.Chained.{IsChained}
 use Rattle.entries.specs.declared.Live.{Live}
@@ -26,18 +27,21 @@ use Rattle.entries.specs.Pairs.{Pair, pairsOf}
 use Rattle.sound.specs.Sound.{SoundImage, SoundBut}
 use Rattle.counters.specs.Recount.{touched}
 use Rattle.sound.proofs.Sound.{but-more}
+use Rattle.sound.proofs.AgreeTier.{SameTier, SameCounters}
+use Rattle.counters.specs.LowMarks.{LowKept, LowMarks}
 use Rattle.counters.proofs.Recounting.{settle-sound, settle-pairs}
+use Rattle.counters.proofs.LowMarks.{low-same, low-then, low-only, settle-lows}
 use Rattle.placement.specs.declared.Run.{Run}
 use Rattle.placement.specs.declared.Run.the-variants.{At, Nowhere}
 use Rattle.placement.specs.Runs.{runFor, fullIn}
 use Rattle.placement.specs.Placement.{placeAt}
 use Rattle.placement.proofs.Running.{run-found}
-use Rattle.placement.proofs.Placing.{Places, place-sound, place-chain, place-pairs}
+use Rattle.placement.proofs.Placing.{Places, place-only, place-sound, place-chain, place-pairs}
 use Rattle.joining.specs.Joining.{join}
-use Rattle.joining.proofs.Joined.{join-sound, join-stays, join-in, join-pairs, join-empty, join-clear, join-absent}
-use Rattle.edit.specs.Edits.{find, without, runOf, nowhereToGo, noRoom, placeIn, tierFor, tierOf, storeImage}
+use Rattle.joining.proofs.Joined.{join-sound, join-tiers, join-stays, join-in, join-pairs, join-empty, join-clear, join-absent}
+use Rattle.edit.specs.Edits.{find, without, runOf, nowhereToGo, noRoom, left, placeIn, tierFor, tierOf, storeTiers, storeImage}
 use Rattle.edit.specs.Replaced.{Storable}
-use Rattle.edit.proofs.Without.{left, without-sound, without-left, without-pairs, without-absent}
+use Rattle.edit.proofs.Without.{without-sound, without-left, without-lows, without-pairs, without-absent}
 use Rattle.edit.proofs.Replacing.{found-tier}
 
 -- ---- the tiers that a store changes
@@ -135,6 +139,7 @@ module _ (z : Shape) (img : List ℕ) (key value : List ℕ) (w : Storable z img
   record Placed (img₂ : List ℕ) (t : ℕ) : Type 0 where
     soundBut : SoundBut z img₂ (t ∷ gone)
     chained : Every (t ∷ gone) (IsChained z img₂)
+    lows : (u : ℕ) → IsTier z u → (List·Memᴰ u (t ∷ gone) → ⊥) → LowKept z img img₂ u
     pairs : (F : Pair → ℕ) → total (pairsOf z img₂) F ≡ total (pairsOf z img₁) F + F (record { key = key; value = value })
 
   -- every tier that was chained is so still
@@ -155,6 +160,8 @@ module _ (z : Shape) (img : List ℕ) (key value : List ℕ) (w : Storable z img
       record {
         soundBut = place-sound p;
         chained = stays-chained img₁ t c p (without-left z img sound key);
+        lows = λ u is out.
+            low-then (without-lows z img sound key u is (λ k. out (List·Memᴰ·tail k))) (low-only (place-only p) is (λ q. out (List·Memᴰ·head q)));
         pairs = place-pairs p;
       }
   placed Nowhere e h =
@@ -169,6 +176,10 @@ module _ (z : Shape) (img : List ℕ) (key value : List ℕ) (w : Storable z img
             (λ u m.
             let d : IsChained z img₁ u = without-left z img sound key u m in
             (d .0, (d .1 .0, join-stays z img₁ s hs sound₁ ne (d .0) u (d .1 .0) (d .1 .1))));
+        lows = λ u is out.
+            let joined : SameTier z img₁ (join z img₁ s) u × SameCounters z img₁ (join z img₁ s) u = join-tiers z img₁ s hs sound₁ ne u is in
+            low-then (without-lows z img sound key u is (λ k. out (List·Memᴰ·tail k)))
+            (low-then (low-same (joined .0) (joined .1)) (low-only (place-only p) is (λ q. out (List·Memᴰ·head q))));
         pairs = λ F. place-pairs p F
             ∙ ap (λ (k : ℕ). k + F (record { key = key; value = value })) (join-pairs z img₁ s hs sound₁ ne F);
       }
@@ -192,6 +203,13 @@ module _ (z : Shape) (img : List ℕ) (key value : List ℕ) (w : Storable z img
     pub store-sound : SoundImage z (storeImage z img key value)
     unfolding storeImage
     store-sound = settle-sound z _ (placeIn z img₁ key value r) changed in-chains
+
+    pub store-lows : LowMarks z img (storeImage z img key value) (storeTiers z img key value)
+    unfolding storeImage
+    store-lows =
+        settle-lows z _ (placeIn z img₁ key value r) changed in-chains
+        (λ u is out.
+        done .lows u is (λ k. out (touched-more (tierFor z img₁ r) (find z img key) (λ e f. found-tier z img sound key e f) u k)))
 
     pub store-pairs : (F : Pair → ℕ) → total (pairsOf z (storeImage z img key value)) F
         ≡ F (record { key = key; value = value }) + total (those (pairsOf z img) (λ p. not (same (p .key) key))) F

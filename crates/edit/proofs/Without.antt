@@ -1,6 +1,6 @@
 -- The image without the key's entry, if there is one: sound but for the counters of the tier that it left, without the key, and with all else.
 use Prim.Native.Nat.{ℕ, _≤_, _<_}
-use mathlib.Core.List.{List, [], _∷_, List·Memᴰ, List·Memᴰ·not-nil, List·Memᴰ·eq-of-singleton}
+use mathlib.Core.List.{List, [], List·Memᴰ, List·Memᴰ·head, List·Memᴰ·not-nil, List·Memᴰ·eq-of-singleton}
 use mathlib.Core.Path.{_≡_, refl, ap, sym, _∙_, subst}
 use mathlib.Core.Logic.{_≢_}
 use mathlib.Core.Bool.{true, false, not}
@@ -12,6 +12,7 @@ use Rattle.lists.proofs.Totals.{total-same, total-zero, total-at, those-total}
 use Rattle.words.specs.Bytes.{same}
 use Rattle.words.proofs.Bytes.{same-eq, same-false}
 use Rattle.layout.specs.declared.Shape.{Shape}
+use Rattle.layout.specs.Tiers.{IsTier}
 use Rattle.chains.specs.Chains.{chain, freeHead}
 use Rattle.chains.proofs.Chained.{IsChained}
 use Rattle.entries.specs.declared.Live.{Live}
@@ -23,11 +24,13 @@ use Rattle.entries.specs.Pairs.{Pair, pairOf, pairsOf}
 use Rattle.sound.specs.Sound.{SoundImage, SoundBut}
 use Rattle.counters.specs.Recount.{settle}
 use Rattle.sound.proofs.Sound.{sound-but}
+use Rattle.counters.specs.LowMarks.{LowKept, LowMarks}
 use Rattle.counters.proofs.Recounting.{settle-sound, settle-pairs}
+use Rattle.counters.proofs.LowMarks.{low-stays, low-only, settle-lows}
 use Rattle.sound.proofs.KeyCounts.{withKey, keys-once, pair-live, live-pair}
 use Rattle.removal.specs.Removal.{removeEntry}
-use Rattle.removal.proofs.Removing.{removal-sound, removal-tier, removal-pairs, removal-head}
-use Rattle.edit.specs.Edits.{find, withoutEntry, without, removedEntry, removeImage}
+use Rattle.removal.proofs.Removing.{removal-only, removal-sound, removal-tier, removal-pairs, removal-head}
+use Rattle.edit.specs.Edits.{find, withoutEntry, without, left, removedEntry, removeImage, removeTiers}
 use Rattle.edit.proofs.Finding.{find-live, find-none}
 
 -- ---- a key's weight
@@ -50,11 +53,6 @@ others-own key F p e = rw (same-eq (p .key) key e, others)
 others-other : (key : List ℕ) (F : Pair → ℕ) (p : Pair) → p .key ≢ key → others key F p ≡ F p
 others-other key F p n = rw (same-false (p .key) key n, others)
 
--- the tiers that an entry leaves
-abbrev pub left : Option Live → List ℕ
-left none = []
-left (some e) = e .tier ∷ []
-
 module _ (z : Shape) (img : List ℕ) (sound : SoundImage z img) (key : List ℕ) where
   every : SoundBut z img []
   every = sound-but z img sound
@@ -65,6 +63,11 @@ module _ (z : Shape) (img : List ℕ) (sound : SoundImage z img) (key : List ℕ
   unfolding withoutEntry
   entry-sound none f = every
   entry-sound (some e) f = removal-sound z img every e (find-live z img key e f .0)
+
+  entry-lows : (o : Option Live) → find z img key ≡ o → (u : ℕ) → IsTier z u → (List·Memᴰ u (left o) → ⊥) → LowKept z img (withoutEntry z img o) u
+  unfolding withoutEntry
+  entry-lows none f u is out = low-stays
+  entry-lows (some e) f u is out = low-only (removal-only z img every e (find-live z img key e f .0)) is (λ q. out (List·Memᴰ·head q))
 
   entry-left : (o : Option Live) → find z img key ≡ o → Every (left o) (IsChained z (withoutEntry z img o))
   unfolding withoutEntry
@@ -106,6 +109,11 @@ module _ (z : Shape) (img : List ℕ) (sound : SoundImage z img) (key : List ℕ
   pub without-left : Every (left (find z img key)) (IsChained z (without z img key))
   unfolding without
   without-left = entry-left (find z img key) refl
+
+  -- tiers that it does not leave keep their bits and their lowest free chunk field
+  pub without-lows : (u : ℕ) → IsTier z u → (List·Memᴰ u (left (find z img key)) → ⊥) → LowKept z img (without z img key) u
+  unfolding without
+  without-lows = entry-lows (find z img key) refl
 
   pub without-key : total (pairsOf z (without z img key)) (withKey key) ≡ 0
   unfolding without
@@ -153,6 +161,9 @@ module _ (z : Shape) (img : List ℕ) (sound : SoundImage z img) (key : List ℕ
 
   pub remove-sound : SoundImage z (removeImage z img key)
   remove-sound = rw remove-is (settle-sound z (left (find z img key)) (without z img key) without-sound without-left)
+
+  pub remove-lows : LowMarks z img (removeImage z img key) (removeTiers z img key)
+  remove-lows = rw remove-is (settle-lows z (left (find z img key)) (without z img key) without-sound without-left without-lows)
 
   pub remove-pairs : (F : Pair → ℕ) → total (pairsOf z (removeImage z img key)) F ≡ total (those (pairsOf z img) (λ p. not (same (p .key) key))) F
   remove-pairs F = rw remove-is (settle-pairs z (left (find z img key)) (without z img key) without-sound without-left F ∙ without-pairs F)

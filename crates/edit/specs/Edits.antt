@@ -44,6 +44,14 @@ removedEntry z img (some e) = settle z (removeEntry z img e) (e .tier ∷ [])
 unfoldable pub removeImage : Shape → List ℕ → List ℕ → List ℕ
 removeImage z img key = removedEntry z img (find z img key)
 
+-- the tiers that an entry leaves; those in which a removal frees chunks
+abbrev pub left : Option Live → List ℕ
+left none = []
+left (some e) = e .tier ∷ []
+
+abbrev pub removeTiers : Shape → List ℕ → List ℕ → List ℕ
+removeTiers z img key = left (find z img key)
+
 -- ---- store
 
 -- which tier of the key's chain takes the entry, and where
@@ -72,8 +80,11 @@ abbrev pub tierOf : Option Live → ℕ
 tierOf none = 0
 tierOf (some e) = e .tier
 
--- the old entry is removed first, in effect; the counters of both tiers follow
+-- the tiers in which a store takes or frees chunks
+abbrev pub storeTiers : Shape → List ℕ → List ℕ → List ℕ → List ℕ
+storeTiers z img key value = touched (tierFor z (without z img key) (runOf z (without z img key) key value)) (tierOf (find z img key))
+
+-- the old entry is removed first, in effect; the counters of those tiers follow
 unfoldable pub storeImage : Shape → List ℕ → List ℕ → List ℕ → List ℕ
 storeImage z img key value =
-    settle z (placeIn z (without z img key) key value (runOf z (without z img key) key value))
-    (touched (tierFor z (without z img key) (runOf z (without z img key) key value)) (tierOf (find z img key)))
+    settle z (placeIn z (without z img key) key value (runOf z (without z img key) key value)) (storeTiers z img key value)

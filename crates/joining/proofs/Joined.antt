@@ -9,7 +9,7 @@ use Rattle.lists.specs.Cases.{same-or}
 use Rattle.lists.specs.Lists.{total}
 use Rattle.lists.specs.Quantify.{Below, Every}
 use Rattle.layout.specs.declared.Shape.{Shape}
-use Rattle.layout.specs.Tiers.{IsExtra}
+use Rattle.layout.specs.Tiers.{IsTier, IsExtra}
 use Rattle.layout.specs.Places.{bulkCount, headersOffset, storeSize, mark}
 use Rattle.layout.proofs.Frames.{shape-same, fits-same}
 use Rattle.chains.specs.Chains.{chain, freeHead, freeChain}
@@ -20,7 +20,7 @@ use Rattle.entries.specs.Pairs.{Pair, pairsOf}
 use Rattle.sound.specs.Sound.{SoundBut}
 use Rattle.joining.specs.Joining.{lastTier, join}
 use Rattle.chains.proofs.Tiers.{chain-tiers}
-use Rattle.sound.proofs.AgreeTier.{same-tier-fits, same-marks, same-counters, same-free}
+use Rattle.sound.proofs.AgreeTier.{SameTier, SameCounters, same-tier-fits, same-marks, same-counters, same-free}
 use Rattle.sound.proofs.Sound.{sound-image}
 use Rattle.joining.proofs.Ends.{join-joins}
 use Rattle.joining.proofs.Chains.{others-free, longer-chain, other-chain, shorter-free}
@@ -96,6 +96,10 @@ module _ (z : Shape) (img : List ℕ) (s : ℕ) (hs : s < z .settings .segments)
 
   pub join-sound : SoundBut z (join z img s) (freeHead z img ∷ but)
   join-sound = sound-again (join z img s) done
+
+  -- every tier's slots, marks, bytes and two counters stay
+  pub join-tiers : (u : ℕ) → IsTier z u → SameTier z img (join z img s) u × SameCounters z img (join z img s) u
+  join-tiers u is = (done .sameTiers u is, done .counts u is)
 
   pub join-chain : chain z (join z img s) s ≡ chain z img s ++ (freeHead z img ∷ [])
   join-chain = longer-chain z img s hs (sound .fits .chains) ne (join z img s) done

@@ -11,7 +11,7 @@ use native.Mathlib.Numerals.{add-one}
 use lib.Dec.{eqb}
 use lib.ListN.{length, length-append}
 use Rattle.lists.specs.Cases.{by-test, same-or}
-use Rattle.lists.specs.Lists.{span, below, first, those, howMany}
+use Rattle.lists.specs.Lists.{span, below, first, those, howMany, orElse}
 use Rattle.lists.specs.Quantify.{Below}
 use Rattle.lists.proofs.Lists.{span-more, howMany-same, howMany-other}
 
@@ -55,6 +55,19 @@ module _ (p : ℕ → Bool) where
   first-span-none a (suc n) f =
       let u : p a ≡ false = rw add-zero at (f 0 (omega arith)) in
       rw (u, first) (first-span-none (suc a) n (λ i l. let g : suc a + i ≡ a + suc i = omega arith in rw g (f (suc i) (omega arith))))
+
+  -- those before it do not pass
+  pub before-first : (a n d i : ℕ) → a ≤ i → i < a + n → i < orElse (first (span a n) p) d → p i ≡ false
+  unfolding span first
+  before-first a zero d i l h f = absurd (omega arith)
+  before-first a (suc n) d i l h f =
+      by-test (p a)
+      (λ (t : p a ≡ true). let g : i < a = rw t at f in absurd (omega arith))
+      (λ (t : p a ≡ false).
+      ⊎-elim
+      (λ (e : i ≡ a). ap p e ∙ t)
+      (λ (e : i ≢ a). before-first (suc a) n d i (omega arith) (omega arith) (rw t at f))
+      (same-or i a))
 
   -- ---- one number more
 

@@ -8,7 +8,7 @@ use borrow.Author.Tests.{le-leb, lt-leb}
 use Rattle.lists.specs.Quantify.{Every, every-none}
 use Rattle.lists.proofs.Members.{every-more}
 use Rattle.layout.specs.declared.Shape.{Shape}
-use Rattle.layout.specs.Tiers.{tiers, IsTier}
+use Rattle.layout.specs.Tiers.{tiers}
 use Rattle.chains.specs.Chains.{chain, nextOf}
 use Rattle.chains.proofs.Along.{AlongChain, chain-starts, chain-ends, chain-out, chain-splits, chain-in, chain-turns}
 use Rattle.placement.specs.declared.Run.the-variants.{At, Nowhere}
@@ -72,8 +72,8 @@ module _ (z : Shape) (full : ℕ → ℕ) (isClear : ℕ → ℕ → Bool) where
       seeking-out h = none-takes (chain-out z img s (w .along) h)
 
       module _ (h : k < most) (ne : t ≢ 0) where
-        pub seeking-tier : Every (chain z img s) (IsTier z) → IsTier z t
-        seeking-tier is = is t (chain-in z img s (w .along) h ne)
+        pub seeking-tier : {P : ℕ → Type 0} → Every (chain z img s) P → P t
+        seeking-tier all = all t (chain-in z img s (w .along) h ne)
 
         pub seeking-found : (u c : ℕ) → runIn z full isClear t n ≡ At u c → At u c ≡ firstRun z full isClear (chain z img s) n
         seeking-found u c f =

@@ -8,6 +8,7 @@ use native.Mathlib.Omega.{arith}
 use native.Mathlib.Nat.{zero-add}
 use Rattle.lists.specs.Cases.{same-or, lt-or}
 use Rattle.lists.specs.Lists.{below, first}
+use Rattle.lists.specs.Quantify.{Below}
 use Rattle.lists.proofs.Rows.{first-span-at, first-span-none}
 use Rattle.layout.specs.declared.Shape.{Shape}
 use Rattle.placement.specs.declared.Run.the-variants.{At, Nowhere}
@@ -44,14 +45,14 @@ module _ (z : Shape) (full : ℕ → ℕ) (isClear : ℕ → ℕ → Bool) (t : 
       pub held : (k : ℕ) → i ≤ k + have → k < i → isClear t k ≡ true
       pub none-before : (c : ℕ) → c + have < i → clearFrom z full isClear t c n ≡ false
 
-    pub running-starts : 0 < n → Running 0 0
-    running-starts h =
+    pub running-starts : 0 < n → {i : ℕ} → i ≤ z .settings .chunks → Below i (λ k. isClear t k ≡ false) → Running 0 i
+    running-starts h l marked =
         record {
-          low = omega arith;
+          low = l;
           fewer = h;
           within = omega arith;
           held = λ k a b. absurd (omega arith);
-          none-before = λ c a. absurd (omega arith);
+          none-before = λ c a. from-broken n c c (omega arith) (omega arith) (marked c (omega arith));
         }
 
     module _ {have i : ℕ} (w : Running have i) where

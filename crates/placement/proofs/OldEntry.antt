@@ -1,7 +1,7 @@
 -- What the code finds of a tier's chunks and slots where the old entry counts as removed.
 use Prim.Native.Nat.{ℕ, _+_, _-_, _≤_, _<_}
 use mathlib.Core.List.{List}
-use mathlib.Core.Path.{_≡_, refl}
+use mathlib.Core.Path.{_≡_, refl, sym, _∙_}
 use mathlib.Core.Logic.{_≢_}
 use mathlib.Core.Bool.{Bool, true, false, _&&_}
 use native.Mathlib.Omega.{arith}
@@ -9,10 +9,12 @@ use lib.Dec.{leb, eqb}
 use borrow.Author.Tests.{eqb-true, eqb-false, eq-eqb, ne-eqb, le-leb, lt-leb, lt-ltb, le-ltb}
 use Rattle.lists.specs.Cases.{by-test}
 use Rattle.layout.specs.declared.Shape.{Shape}
-use Rattle.chunks.specs.Chunks.{clear}
+use Rattle.chunks.specs.Chunks.{clear, lowField, LowMarkFits}
+use Rattle.chunks.proofs.LowMark.{low-mark-few, low-mark-below}
 use Rattle.counters.proofs.CountRoom.{full-few}
 use Rattle.placement.specs.declared.Old.{Old}
 use Rattle.placement.specs.Runs.{fullIn, fullBut, clearBut}
+use Rattle.placement.specs.Asking.{NoneClearBelow}
 
 and-false : (a : Bool) → (a && false) ≡ false
 and-false true = refl
@@ -38,6 +40,18 @@ module _ (z : Shape) (img : List ℕ) (old : Old) (t : ℕ) where
     unfolding clearBut
     clear-after h =
         rw (le-ltb i (old .chunk + old .chunks) h, and-false (leb (old .chunk) i), and-false (eqb t (old .tier)))
+
+  -- ---- the chunks below a place that the lowest free chunk field allows
+
+  module _ (low : LowMarkFits z img t) {c : ℕ} (h : c ≤ lowField z img t) where
+    within : c ≤ z .settings .chunks
+    within = omega (arith, h, low-mark-few low)
+
+    pub scan-old : c ≤ old .chunk → NoneClearBelow z img old t c
+    scan-old l = (within, λ i b. sym (clear-before i (omega arith)) ∙ low-mark-below low i (omega (arith, h)))
+
+    pub scan-else : t ≢ old .tier → NoneClearBelow z img old t c
+    scan-else ne = (within, λ i b. sym (clear-else i ne) ∙ low-mark-below low i (omega (arith, h)))
 
   -- ---- the slots
 

@@ -37,6 +37,9 @@ module _ {z : Shape} {img but : List ℕ} {s t c : ℕ} {key value : List ℕ} (
       after-total p (λ v. F (pairFor z img t v)) (λ v. F (pairFor z m t v)) (λ j h f. ap F (pair-kept p j h f))
       ∙ ap (λ (x : Pair). weigh z img F t + F x) (pair-here p)
 
+  pub place-only : OnlyTier z img (placeAt z img t c key value) t
+  place-only = rw place-is only
+
   pub place-sound : SoundBut z (placeAt z img t c key value) (t ∷ but)
   place-sound = rw place-is (tier-replaced z img s t (p .segmentIn) (p .sound) (p .tierIn) m only (tier-again p))
 

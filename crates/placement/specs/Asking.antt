@@ -1,6 +1,8 @@
 -- What the functions that place an entry ask for. The definitions serve contracts alone.
 use Prim.Native.Nat.{ℕ, _+_, _≤_, _<_}
 use mathlib.Core.List.{List}
+use mathlib.Core.Path.{_≡_}
+use mathlib.Core.Bool.{false}
 use lib.ListN.{length}
 use Rattle.settings.specs.declared.Settings.{Settings}
 use Rattle.layout.specs.declared.Shape.{Shape}
@@ -8,11 +10,13 @@ use Rattle.layout.specs.FramedTier.{FramedTier}
 use Rattle.entries.specs.Stored.{chunksFor, longestValue}
 use Rattle.search.specs.Rules.{SomeEmpty}
 use Rattle.search.specs.Asking.{Seeks, Lacks}
-use Rattle.lists.specs.Quantify.{Every}
+use Rattle.lists.specs.Quantify.{Below, Every}
 use Rattle.layout.specs.Tiers.{IsTier}
 use Rattle.layout.specs.Frame.{Framed}
 use Rattle.chains.specs.Chains.{chain}
+use Rattle.chunks.specs.Chunks.{LowMarkFits}
 use Rattle.placement.specs.declared.Old.{Old}
+use Rattle.placement.specs.Runs.{clearBut}
 use Rattle.entries.specs.Keys.{longestKey}
 
 module _ (z : Shape) (img : List ℕ) where
@@ -53,9 +57,14 @@ module _ (z : Shape) (img : List ℕ) where
     pub chunkIn : i < chunks
     pub oldEnds : OldEnds old
 
+  -- a place in tier t's chunks below which none is clear
+  abbrev pub NoneClearBelow : Old → ℕ → ℕ → Type 0
+  NoneClearBelow old t c = (c ≤ chunks) × Below c (λ i. clearBut z img old t i ≡ false)
+
   -- in tier t
   pub record CanScan (old : Old) (t n : ℕ) : Type 0 where
     pub tier : FramedTier z img t
+    pub lowMark : LowMarkFits z img t
     pub some : 0 < n
     pub oldEnds : OldEnds old
 
@@ -64,5 +73,6 @@ module _ (z : Shape) (img : List ℕ) where
     pub framed : Framed z (length img)
     pub segmentIn : s < z .settings .segments
     pub tiersOf : Every (chain z img s) (IsTier z)
+    pub lowMarks : Every (chain z img s) (LowMarkFits z img)
     pub some : 0 < n
     pub oldEnds : OldEnds old

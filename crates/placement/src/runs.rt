@@ -5,7 +5,8 @@ use layout::Shape;
 ghost use mathlib.Core.Path.{_≡_};
 ghost use Rattle.layout.specs.FramedTier.{FramedTier};
 ghost use Rattle.chains.specs.Chains.{chain};
-ghost use Rattle.placement.specs.Asking.{CanTest, CanScan, CanScanChain};
+ghost use Rattle.chunks.specs.Chunks.{LowMarkFits};
+ghost use Rattle.placement.specs.Asking.{CanTest, NoneClearBelow, CanScan, CanScanChain};
 ghost use Rattle.placement.specs.Runs.{fromLowest, lowestRun, runIn, firstRun, fullBut, clearBut};
 
 // Whether chunk i of tier t is clear.
@@ -38,13 +39,27 @@ fn full_but(z: Shape, img: &[u8], old: Old, t: usize) -> usize
     full
 }
 
+// A chunk of tier t below which none is clear. The old entry's chunks may lie below the lowest free chunk field.
+fn scan_from(z: Shape, img: &[u8], old: Old, t: usize) -> usize
+    requires { ⌜ FramedTier z (now img) t × LowMarkFits z (now img) t ⌝ }
+    ensures { λ r. ⌜ NoneClearBelow z (now (img .entry)) old t r ⌝ }
+{
+    let low = layout::read::low_of(z, img, t) as usize;
+    if t == old.tier {
+        if old.chunk < low {
+            return old.chunk;
+        }
+    }
+    low
+}
+
 // The lowest run of n clear chunks in tier t; `have` clear chunks end before chunk i.
 fn lowest_run(z: Shape, img: &[u8], old: Old, t: usize, n: usize) -> Run
     requires { ⌜ CanScan z (now img) old t n ⌝ }
     ensures { λ r. ⌜ r ≡ fromLowest t (lowestRun z (fullBut z (now (img .entry)) old) (clearBut z (now (img .entry)) old) t n) ⌝ }
 {
     let mut have = 0;
-    let mut i = 0;
+    let mut i = scan_from(z, img, old, t);
     while i < z.settings.chunks {
         if !is_clear(z, img, old, t, i) {
             have = 0;

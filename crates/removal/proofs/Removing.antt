@@ -64,6 +64,9 @@ module _ (z : Shape) (img : List ℕ) {but : List ℕ} (sound : SoundBut z img b
 
   -- ---- the results
 
+  pub removal-only : OnlyTier z img (removeEntry z img e) (e .tier)
+  removal-only = only
+
   pub removal-sound : SoundBut z (removeEntry z img e) (e .tier ∷ but)
   removal-sound =
       tier-replaced z img segment tier (found .segmentIn) sound (found .tierIn) after only

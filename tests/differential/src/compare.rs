@@ -36,6 +36,11 @@ impl<'a> Pair<'a> {
         &self.ours
     }
 
+    /// The image before the last edit.
+    pub fn before(&self) -> &[u8] {
+        &self.before
+    }
+
     fn their_image(&self) -> &[u8] {
         &self.theirs[GUARD..self.theirs.len() - GUARD]
     }
@@ -97,7 +102,7 @@ impl<'a> Pair<'a> {
         self.settle_edit(6, &format!("set of {a} {b} to {delay}"), ours, theirs)
     }
 
-    /// Counts that something planned for lengths or for the pair calls came up.
+    /// Counts that something planned came up.
     pub fn met(&mut self, what: String) {
         *self.tally.met.entry(what).or_default() += 1;
     }

@@ -27,7 +27,7 @@ pub struct Scene<'a> {
 
 pub type Damage = fn(&mut Scene) -> Option<Verdict>;
 
-pub const DAMAGES: [(&str, Damage); 27] = [
+pub const DAMAGES: [(&str, Damage); 29] = [
     ("store size", frame::store_size),
     ("headers offset", frame::headers_offset),
     ("headers over the state", frame::headers_too_low),
@@ -52,7 +52,9 @@ pub const DAMAGES: [(&str, Damage); 27] = [
     ("a bit behind the last chunk", chunks::bit_behind),
     ("a full slot in a free tier", chunks::free_tier_slot),
     ("entry count", chunks::entry_count),
-    ("lowest free chunk", chunks::lowest_free),
+    ("a low mark that lags", chunks::low_mark_lags),
+    ("a full tier's low mark that lags", chunks::full_mark_lags),
+    ("a low mark too high", chunks::low_mark_high),
     ("a dead field of a main tier", chunks::dead_field),
     ("an unnamed byte", chunks::unnamed_byte),
 ];
@@ -83,6 +85,14 @@ impl Scene<'_> {
 
     fn chained_tier(&mut self) -> usize {
         *self.rng.pick(&self.model.chained_tiers())
+    }
+
+    /// A chained tier that is full, or one that is not.
+    fn chained_filled(&mut self, full: bool) -> Option<usize> {
+        let chunks = self.model.plan.chunks;
+        let mut tiers = self.model.chained_tiers();
+        tiers.retain(|&tier| (self.model.lowest_clear(tier) == chunks) == full);
+        (!tiers.is_empty()).then(|| *self.rng.pick(&tiers))
     }
 
     fn extra_chained(&mut self) -> Option<usize> {

@@ -7,6 +7,7 @@ use std::collections::BTreeMap;
 use crate::compare::{Outcome, Pair};
 use crate::draw;
 use crate::lengths;
+use crate::low_marks::Edit;
 use crate::oracle::Oracle;
 use crate::plan::{Plan, length_size};
 use crate::rng::Rng;
@@ -97,6 +98,7 @@ impl History<'_, '_> {
             for length in lengths::brought(key.len(), value.len()) {
                 self.pair.met(length);
             }
+            self.low_marks(&key, Some(place.0))?;
             self.records.insert(key, value);
         }
         Ok(())
@@ -143,7 +145,26 @@ impl History<'_, '_> {
             "removal",
             number,
             if refused != 0 { refused } else { absent },
-        )
+        )?;
+        if number == 0 {
+            self.low_marks(&key, None)?;
+        }
+        Ok(())
+    }
+
+    /// What an edit made of the low marks.
+    fn low_marks(&mut self, key: &[u8], placed: Option<usize>) -> Outcome<()> {
+        let edit = Edit {
+            plan: self.plan,
+            before: self.pair.before(),
+            after: self.pair.image(),
+            segment: self.plan.parts(key).0,
+            placed,
+        };
+        for event in edit.marks()? {
+            self.pair.met(event);
+        }
+        Ok(())
     }
 
     fn totals(&mut self) -> Outcome<()> {

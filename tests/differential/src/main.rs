@@ -13,6 +13,7 @@ mod defects;
 mod draw;
 mod history;
 mod lengths;
+mod low_marks;
 mod model;
 mod oracle;
 mod plan;

@@ -160,6 +160,11 @@ impl Model {
         marks
     }
 
+    pub fn lowest_clear(&self, tier: usize) -> usize {
+        let clear = self.marks(tier).iter().position(|mark| !mark);
+        clear.unwrap_or(self.plan.chunks)
+    }
+
     /// A run of clear chunks: the lowest, or the first from a random one.
     pub fn clear_run(&self, rng: &mut Rng, tier: usize, chunks: usize) -> Option<usize> {
         let last = self.plan.chunks.checked_sub(chunks)?;

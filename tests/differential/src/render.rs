@@ -1,5 +1,6 @@
 //! From a model to bytes, with junk in every byte that no rule names.
 
+use crate::low_marks;
 use crate::model::Model;
 use crate::rng::Rng;
 
@@ -21,7 +22,7 @@ impl Model {
         let mut image = junk(rng, plan.store_size() + plan.bytes_after);
         self.write_global_state(&mut image);
         for (segment, chain) in self.chains.iter().enumerate() {
-            self.write_chain(&mut image, segment, chain);
+            self.write_chain(rng, &mut image, segment, chain);
         }
         for (place, &tier) in self.free.iter().enumerate() {
             let next = self.free.get(place + 1).copied().unwrap_or(0);
@@ -46,7 +47,7 @@ impl Model {
         put(image, state + 25, 8, plan.store_size() as u64);
     }
 
-    fn write_chain(&self, image: &mut [u8], segment: usize, chain: &[usize]) {
+    fn write_chain(&self, rng: &mut Rng, image: &mut [u8], segment: usize, chain: &[usize]) {
         let plan = &self.plan;
         let mut previous = 0;
         for (order, &tier) in chain.iter().enumerate() {
@@ -55,11 +56,10 @@ impl Model {
             put(image, counters + 24, 4, segment as u64);
             put(image, counters + 28, 4, order as u64);
             let next = chain.get(order + 1).copied().unwrap_or(0);
-            let marks = self.marks(tier);
-            let lowest = marks.iter().position(|mark| !mark).unwrap_or(plan.chunks);
+            let low_mark = low_marks::drawn(rng, self.lowest_clear(tier), plan.chunks);
             for ((at, width), number) in [
                 (plan.next_field(tier), next),
-                (plan.lowest_free_field(tier), lowest),
+                (plan.lowest_free_field(tier), low_mark),
                 (plan.entry_count_field(tier), self.tiers[tier].len()),
             ] {
                 put(image, at, width, number as u64);

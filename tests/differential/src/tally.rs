@@ -7,6 +7,7 @@ use crate::compare::Outcome;
 use crate::damage::DAMAGES;
 use crate::defects::DEFECTS;
 use crate::lengths;
+use crate::low_marks;
 
 /// The calls, and the numbers that each may answer.
 pub const CALLS: [(&str, &[u32]); 7] = [
@@ -27,7 +28,8 @@ pub struct Tally {
     pub hashes: u64,
     /// How often each planned fault was made.
     pub faults: BTreeMap<&'static str, u64>,
-    /// How often what is planned for lengths and for the pair calls came up.
+    /// How often what is planned for lengths, low marks and the pair calls
+    /// came up.
     pub met: BTreeMap<String, u64>,
 }
 
@@ -52,7 +54,10 @@ impl Tally {
         let damages = DAMAGES.iter().map(|(name, _)| *name);
         let faults = damages.chain(DEFECTS.iter().map(|(name, _)| *name));
         let faults = faults.filter(|name| !self.faults.contains_key(name));
-        let planned = channels::planned().into_iter().chain(lengths::planned());
+        let planned = channels::planned().into_iter();
+        let planned = planned
+            .chain(lengths::planned())
+            .chain(low_marks::planned());
         let planned = planned.filter(|name| !self.met.contains_key(name));
         numbers
             .chain(faults.map(str::to_string))

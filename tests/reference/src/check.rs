@@ -145,7 +145,15 @@ impl<'a> Check<'a> {
         contents.apart
             && contents.covered.same_as(marked)
             && tier.entry_count(self.image) == contents.full_slots
-            && tier.lowest_free(self.image) == marked.next_clear(0) as u64
+            && self.low_mark_holds(tier, marked)
+    }
+
+    /// A low mark may lag behind the lowest clear chunk. A full tier has no
+    /// such chunk, and its mark is the number of chunks, exactly.
+    fn low_mark_holds(&self, tier: &Tier, marked: &BitSet) -> bool {
+        let mark = tier.lowest_free(self.image);
+        let exact = marked.next_clear(0);
+        mark == exact as u64 || mark < exact as u64 && exact < self.frame.settings.chunks
     }
 
     /// Whether a free tier has neither a full slot nor a marked chunk.

@@ -153,6 +153,7 @@ impl Accepted {
         self.set_counters(image, tier, entries);
     }
 
+    /// The low mark comes from the bits alone: the old one may have lagged.
     fn set_counters(&self, image: &mut [u8], tier: &Tier, entries: u32) {
         let marked = BitSet::marked(&self.frame.settings, image, tier);
         tier.set_entry_count(image, entries);

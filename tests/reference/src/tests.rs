@@ -1,6 +1,7 @@
 //! The worked store, the run-only cases, and cases of our own.
 
 mod hash_vectors;
+mod low_mark;
 mod pairs;
 mod worked_store;
 

@@ -1,4 +1,4 @@
-use Rattle.edit.proofs.Replacing.{sound-framed, sound-tiers, old-fits}
+use Rattle.edit.proofs.Replacing.{sound-framed, sound-tiers, sound-lows, old-fits}
 use Rattle.edit.proofs.Storage.{some-chunks, scanned, no-room, run-replaces, run-stored, free-extends, free-stored}
 use borrow.Author.Needs.{needs}
 use Rattle.edit.proofs.store.Statement.{statement}
@@ -27,6 +27,7 @@ first-run-requires c κs =
       framed = sound-framed (start .args .z) (start .args .img .now) (start .pre .sound);
       segmentIn = segment-of-hash .ensures .1;
       tiersOf = sound-tiers (start .args .z) (start .args .img .now) (start .pre .sound) (segment-of-hash .result) (segment-of-hash .ensures .1);
+      lowMarks = sound-lows (start .args .z) (start .args .img .now) (start .pre .sound) (segment-of-hash .result) (segment-of-hash .ensures .1);
       some = some-chunks (start .pre) (chunks-for .result) (chunks-for .ensures);
       oldEnds =
           old-fits (start .args .z) (start .args .img .now) (start .pre .sound) (start .args .key .now) (old-entry .result)

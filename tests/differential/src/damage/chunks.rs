@@ -2,6 +2,7 @@
 
 use super::Scene;
 use super::Verdict::{self, Is};
+use crate::render::{get, put};
 
 pub fn chunk_bit(scene: &mut Scene) -> Option<Verdict> {
     let plan = &scene.model.plan;
@@ -40,10 +41,40 @@ pub fn entry_count(scene: &mut Scene) -> Option<Verdict> {
     Some(Is(7))
 }
 
-pub fn lowest_free(scene: &mut Scene) -> Option<Verdict> {
-    let tier = scene.chained_tier();
+pub fn low_mark_lags(scene: &mut Scene) -> Option<Verdict> {
+    let tier = scene.chained_filled(false)?;
+    lower_mark(scene, tier)?;
+    Some(Is(0))
+}
+
+pub fn full_mark_lags(scene: &mut Scene) -> Option<Verdict> {
+    let tier = scene.chained_filled(true)?;
+    lower_mark(scene, tier)?;
+    Some(Is(7))
+}
+
+/// None where another damage has made the mark too high: this would undo it.
+fn lower_mark(scene: &mut Scene, tier: usize) -> Option<()> {
+    let lowest = scene.model.lowest_clear(tier);
     let (at, width) = scene.model.plan.lowest_free_field(tier);
-    scene.change(at, width);
+    if lowest == 0 || get(scene.image, at, width) > lowest as u64 {
+        return None;
+    }
+    let low_mark = scene.rng.below(lowest) as u64;
+    put(scene.image, at, width, low_mark);
+    Some(())
+}
+
+/// By one or a few, or in one of the field's high bytes.
+pub fn low_mark_high(scene: &mut Scene) -> Option<Verdict> {
+    let tier = scene.chained_tier();
+    let lowest = scene.model.lowest_clear(tier) as u64;
+    let (at, width) = scene.model.plan.lowest_free_field(tier);
+    let more = match scene.rng.percent(50) {
+        true => scene.rng.between(1, 3) as u64,
+        false => 1 << (8 * scene.rng.between(2, width - 1)),
+    };
+    put(scene.image, at, width, lowest + more);
     Some(Is(7))
 }
 

@@ -80,6 +80,7 @@ impl History<'_, '_> {
         }
         if let (0, Some(place)) = (number, place) {
             self.stands_at(&key, &record, place)?;
+            self.low_marks(&key, Some(place.0))?;
             self.records.insert(key, record);
         }
         Ok(())

@@ -31,7 +31,7 @@ pub fn store_x() -> Vec<u8> {
     )
 }
 
-fn after_p2() -> Vec<u8> {
+pub fn after_p2() -> Vec<u8> {
     let entry = [2, 1, 2, 4, 0x10, 0, 0, 0];
     let counters: &[u8] = &[1, 0, 0, 0, 1];
     with(
@@ -49,7 +49,7 @@ pub fn after_p3() -> Vec<u8> {
     )
 }
 
-fn after_p4() -> Vec<u8> {
+pub fn after_p4() -> Vec<u8> {
     let entry = [2, 3, 1, 4, 9, 9, 9, 9];
     let counters: &[u8] = &[3, 0, 0, 0, 3];
     with(
@@ -60,7 +60,7 @@ fn after_p4() -> Vec<u8> {
 
 /// Tier 2 has its slots at 296, its counters at 360, its free list at 424
 /// and its chunks from 432 on.
-fn after_p5() -> Vec<u8> {
+pub fn after_p5() -> Vec<u8> {
     let entry = [2, 1, 3, 4, 8, 8, 8, 8];
     let changes: [(usize, &[u8]); 11] = [
         (11, &[0]),
@@ -92,7 +92,7 @@ pub fn after_p6() -> Vec<u8> {
 }
 
 #[track_caller]
-fn stores(before: Vec<u8>, key: [u8; 2], value: &[u8], number: u32, after: Vec<u8>) {
+pub fn stores(before: Vec<u8>, key: [u8; 2], value: &[u8], number: u32, after: Vec<u8>) {
     let mut image = before;
     assert_eq!(store(&block(), &mut image, &key, value), number);
     assert_eq!(image, after);

@@ -41,6 +41,7 @@ run-in-requires c κs =
         framed = b .pre .framed;
         tierIn = seeking-tier _ _ _ _ _ _ (c .before .before .loop .inv) (omega arith) (c .if1 .left) (b .pre .tiersOf);
       };
+      lowMark = seeking-tier _ _ _ _ _ _ (c .before .before .loop .inv) (omega arith) (c .if1 .left) (b .pre .lowMarks);
       some = b .pre .some;
       oldEnds = b .pre .oldEnds;
     }

@@ -13,13 +13,16 @@ Inv-loop z img old t n have₀ i₀ have i = Running z (fullBut z img old) (clea
 abbrev μ-loop : tie.MeasureT-loop
 μ-loop z img old t n have₀ i₀ have i = z .settings .chunks - i
 
+scan-from-requires : tie.Need-scan-from-requires Inv-loop μ-loop
+scan-from-requires c κs = (c .before .pre .tier, c .before .pre .lowMark)
+
 loop-holds : tie.Need-loop-holds Inv-loop μ-loop
-loop-holds c = running-starts _ _ _ _ _ (c .before .pre .some)
+loop-holds c = running-starts _ _ _ _ _ (c .before .before .pre .some) (c .scan-from .ensures .0) (c .scan-from .ensures .1)
 
 is-clear-requires : tie.Need-is-clear-requires Inv-loop μ-loop
 is-clear-requires c κs =
-    let s = c .before .before .before .before in
-    record { tier = s .pre .tier; chunkIn = omega arith; oldEnds = s .pre .oldEnds }
+    let start = c .before .before .before .before .before in
+    record { tier = start .pre .tier; chunkIn = omega arith; oldEnds = start .pre .oldEnds }
 
 add-i : tie.Need-add-i Inv-loop μ-loop
 add-i c = omega arith
@@ -29,10 +32,9 @@ loop-less c = omega arith
 
 loop-again : tie.Need-loop-again Inv-loop μ-loop
 loop-again c =
-    let s = c .before .before .before .before .before .before in
-    running-broken (s .args .z) (fullBut (s .args .z) (s .args .img .now) (s .args .old))
-    (clearBut (s .args .z) (s .args .img .now) (s .args .old)) (s .args .t) (s .args .n) (c .before .before .before .before .loop .inv)
-    (omega arith) (sym (c .before .is-clear .ensures) ∙ not-true _ (c .if2 .taken))
+    let p = c .before in let is-clear = p .is-clear in
+    let p = p .before .before .before in let the-loop = p .loop in
+    running-broken _ _ _ _ _ (the-loop .inv) (omega arith) (sym (is-clear .ensures) ∙ not-true _ (c .if2 .taken))
 
 add-have : tie.Need-add-have Inv-loop μ-loop
 add-have c =
@@ -49,28 +51,23 @@ sub-t10 c =
 
 returns : tie.Need-returns Inv-loop μ-loop
 returns c =
-    let s = c .before .before .before .before .before .before .before in
-    running-found (s .args .z) (fullBut (s .args .z) (s .args .img .now) (s .args .old))
-    (clearBut (s .args .z) (s .args .img .now) (s .args .old)) (s .args .t) (s .args .n)
-    (c .before .before .before .before .before .loop .inv) (omega arith)
-    (sym (c .before .before .is-clear .ensures) ∙ not-false _ (c .before .if2 .left)) (c .if3 .taken)
+    let p = c .before in let if2 = p .if2 in
+    let p = p .before in let is-clear = p .is-clear in
+    let p = p .before .before .before in let the-loop = p .loop in
+    running-found _ _ _ _ _ (the-loop .inv) (omega arith) (sym (is-clear .ensures) ∙ not-false _ (if2 .left)) (c .if3 .taken)
 
 loop-less-2 : tie.Need-loop-less-2 Inv-loop μ-loop
 loop-less-2 c = omega arith
 
 loop-again-2 : tie.Need-loop-again-2 Inv-loop μ-loop
 loop-again-2 c =
-    let s = c .before .before .before .before .before .before .before in
-    running-turns (s .args .z) (fullBut (s .args .z) (s .args .img .now) (s .args .old))
-    (clearBut (s .args .z) (s .args .img .now) (s .args .old)) (s .args .t) (s .args .n)
-    (c .before .before .before .before .before .loop .inv) (omega arith)
-    (sym (c .before .before .is-clear .ensures) ∙ not-false _ (c .before .if2 .left)) (c .if3 .left)
+    let p = c .before in let if2 = p .if2 in
+    let p = p .before in let is-clear = p .is-clear in
+    let p = p .before .before .before in let the-loop = p .loop in
+    running-turns _ _ _ _ _ (the-loop .inv) (omega arith) (sym (is-clear .ensures) ∙ not-false _ (if2 .left)) (c .if3 .left)
 
 returns-2 : tie.Need-returns-2 Inv-loop μ-loop
-returns-2 c =
-    let s = c .before .before .before .before in
-    running-ends (s .args .z) (fullBut (s .args .z) (s .args .img .now) (s .args .old))
-    (clearBut (s .args .z) (s .args .img .now) (s .args .old)) (s .args .t) (s .args .n) (c .before .before .loop .inv) (omega arith)
+returns-2 c = running-ends _ _ _ _ _ (c .before .before .loop .inv) (omega arith)
 
 pub lowest-run-spec : {M : Type 1} → statement M
 lowest-run-spec =
@@ -78,6 +75,7 @@ lowest-run-spec =
     (tie.spec
     Inv-loop
     μ-loop
+    scan-from-requires
     loop-holds
     is-clear-requires
     add-i
