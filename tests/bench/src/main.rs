@@ -64,28 +64,37 @@ fn reads(s: &Store, size: &str) {
     row("entry", size, both(rounds, calls, |_| seen(chronicle_map::entry(b, m, n)), |_| seen(reference::entry(b, m, n))));
 }
 
-/// Each side edits an image of its own: a key is removed and stored again.
+/// The time of one edit, which must answer 0.
+fn once(best: &mut f64, edit: impl FnOnce() -> u32) {
+    let t = Instant::now();
+    assert_eq!(edit(), 0);
+    *best = best.min(t.elapsed().as_secs_f64());
+}
+
+/// Each side edits an image of its own: a key is removed and stored again, then a new key is stored behind all others and removed.
 fn edits(s: &Store, size: &str) {
     let (b, k) = (&s.block, &s.keys);
     let (mut mine, mut other) = (s.image.clone(), s.image.clone());
     let rounds = if mine.len() > 1_000_000 { 9 } else { (2_000_000 / mine.len()).clamp(25, 400) };
-    let (mut stores, mut removes) = ((f64::MAX, f64::MAX), (f64::MAX, f64::MAX));
+    let ok = |r: Result<(), chronicle_map::Refusal>| r.map_or_else(|e| e.number(), |()| 0);
+    let gone = |r: Result<bool, chronicle_map::Refusal>| r.map_or_else(|e| e.number(), |there| !there as u32);
+    let record = [1, 2, 3, 4];
+    let [mut stores, mut removes, mut appends] = [(f64::MAX, f64::MAX); 3];
     for i in 0..rounds {
         let key = &k[i * 37 % k.len()];
-        let once = |f: &mut dyn FnMut() -> u32| {
-            let t = Instant::now();
-            assert_eq!(f(), 0);
-            t.elapsed().as_secs_f64()
-        };
-        let ok = |r: Result<(), chronicle_map::Refusal>| r.map_or_else(|e| e.number(), |()| 0);
-        removes.0 = removes.0.min(once(&mut || chronicle_map::remove(b, &mut mine, key).map_or_else(|e| e.number(), |there| !there as u32)));
-        removes.1 = removes.1.min(once(&mut || reference::remove(b, &mut other, key)));
-        stores.0 = stores.0.min(once(&mut || ok(chronicle_map::store(b, &mut mine, key, &[1, 2, 3, 4]))));
-        stores.1 = stores.1.min(once(&mut || reference::store(b, &mut other, key, &[1, 2, 3, 4])));
+        once(&mut removes.0, || gone(chronicle_map::remove(b, &mut mine, key)));
+        once(&mut removes.1, || reference::remove(b, &mut other, key));
+        once(&mut stores.0, || ok(chronicle_map::store(b, &mut mine, key, &record)));
+        once(&mut stores.1, || reference::store(b, &mut other, key, &record));
+        let new = format!("new {i}");
+        once(&mut appends.0, || ok(chronicle_map::store(b, &mut mine, new.as_bytes(), &record)));
+        once(&mut appends.1, || reference::store(b, &mut other, new.as_bytes(), &record));
         assert!(mine == other);
+        assert_eq!((gone(chronicle_map::remove(b, &mut mine, new.as_bytes())), reference::remove(b, &mut other, new.as_bytes())), (0, 0));
     }
     row("store", size, stores);
     row("remove", size, removes);
+    row("store, new key", size, appends);
 }
 
 fn plans() -> [(&'static str, Plan); 5] {
