@@ -19,7 +19,8 @@ use Rattle.search.specs.declared.Found.{Found}
 use Rattle.search.specs.declared.Found.the-variants.{At, Absent}
 use Rattle.search.specs.Search.{search}
 use Rattle.sound.specs.Sound.{SoundImage}
-use Rattle.edit.specs.Edits.{find, removedEntry, removeImage, noRoom}
+use Rattle.counters.specs.Recount.{settle}
+use Rattle.edit.specs.Edits.{find, withoutEntry, removedEntry, removeImage, noRoom}
 use Rattle.edit.specs.Replaced.{isThere, Stores}
 use Rattle.edit.proofs.Finding.{find-live, search-found, search-none}
 use Rattle.edit.proofs.Replacing.{live-value}
@@ -116,7 +117,7 @@ module _ (z : Shape) (img key : List ℕ) where
 
   absent-by : (o : Option Live) {img′ : List ℕ} → find z img key ≡ o → isThere o ≡ false → img′ ≡ removeImage z img key
       → record { answer = answer.Absent; image = img′ } ≡ removeFound z img key o
-  unfolding removeFound removeImage removedEntry
+  unfolding removeFound removeImage removedEntry withoutEntry settle
   absent-by none f t e = let g : removeImage z img key ≡ img = ap (removedEntry z img) f in λ i. record { answer = answer.Absent; image = (e ∙ g) i }
   absent-by (some x) f t e = absurd (let q : _≡_ {A = ℕ} 0 1 = cc in omega arith)
 

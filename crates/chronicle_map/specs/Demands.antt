@@ -50,7 +50,8 @@ pub record Demand1 (block img : List ℕ) : Type 0 where
   pub checkAnswers : Answers (0 ∷ 2 ∷ 3 ∷ 4 ∷ 5 ∷ 6 ∷ 7 ∷ []) (verdictNumbers (check block img))
   pub listAnswers : (n : ℕ) → Answers (0 ∷ 1 ∷ 2 ∷ 3 ∷ 4 ∷ 5 ∷ 6 ∷ 7 ∷ []) (listedNumbers (entry block img n))
   pub lookupAnswers : (key : List ℕ) → Answers (0 ∷ 1 ∷ 2 ∷ 3 ∷ 4 ∷ 5 ∷ 6 ∷ 7 ∷ 8 ∷ []) (lookupNumbers (lookup block img key))
-  pub removalAnswers : (key : List ℕ) → Answers (0 ∷ 1 ∷ 2 ∷ 3 ∷ 4 ∷ 5 ∷ 6 ∷ 7 ∷ 8 ∷ []) (answerNumber (remove block img key .answer) ∷ [])
+  pub removalAnswers : (key : List ℕ)
+      → Answers (0 ∷ 1 ∷ 2 ∷ 3 ∷ 4 ∷ 5 ∷ 6 ∷ 7 ∷ 8 ∷ []) (answerNumber (remove block img key .answer) ∷ [])
   pub storeAnswers : (key value : List ℕ)
       → Answers (0 ∷ 2 ∷ 3 ∷ 4 ∷ 5 ∷ 6 ∷ 7 ∷ 8 ∷ 9 ∷ 10 ∷ []) (answerNumber (store block img key value .answer) ∷ [])
   -- without a record, the part that `record` answers is the empty one at offset 0

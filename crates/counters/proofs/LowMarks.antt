@@ -59,7 +59,8 @@ module _ (z : Shape) where
   chained-tier : {but img : List ℕ} {t : ℕ} → SoundBut z img but → IsChained z img t → IsTier z t
   chained-tier {but} {img} {t} sound c = chain-tiers z img (sound .fits .chains) (c .0) (c .1 .0) t (c .1 .1)
 
-  exact-stays : (ts img : List ℕ) → SoundBut z img ts → Every ts (IsChained z img) → (u : ℕ) → IsTier z u → Exact img u → Exact (settle z img ts) u
+  exact-stays : (ts img : List ℕ) → SoundBut z img ts → Every ts (IsChained z img) → (u : ℕ) → IsTier z u → Exact img u
+      → Exact (settle z img ts) u
   unfolding settle
   exact-stays [] img sound c u is e = e
   exact-stays (t ∷ ts) img sound c u is e =

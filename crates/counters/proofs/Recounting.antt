@@ -61,7 +61,8 @@ module _ (z : Shape) (img : List ℕ) (s t : ℕ) (hs : s < z .settings .segment
   unfolding recount
   keeps q h a b =
       get-puts-other (im .framed) img (countPlace z t ≔ length (fullSlots z img t) ∷ lowPlace z t ≔ lowestClear z img t ∷ []) q h
-      (every-cons (λ w. In z (written w) × (q ≢ written w)) (countPlace z t ≔ length (fullSlots z img t)) _ (shared-in z entryCount count t it, λ e. a (sym e))
+      (every-cons (λ w. In z (written w) × (q ≢ written w)) (countPlace z t ≔ length (fullSlots z img t)) _
+      (shared-in z entryCount count t it, λ e. a (sym e))
       (every-cons (λ w. In z (written w) × (q ≢ written w)) (lowPlace z t ≔ lowestClear z img t) _ (shared-in z lowestFree low t it, λ e. b (sym e))
       (every-none _)))
 

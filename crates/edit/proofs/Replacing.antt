@@ -140,7 +140,7 @@ module _ (z : Shape) (img : List ℕ) (sound : SoundImage z img) where
     tier-by (some e) = refl
 
     none-by : (o : Option Live) → find z img key ≡ o → tierOf o ≡ 0 → (false ≡ isThere o) × (img ≡ removedEntry z img o)
-    unfolding removedEntry
+    unfolding removedEntry withoutEntry settle
     none-by none f q = (refl, refl)
     none-by (some e) f q = absurd (found-tier e f q)
 

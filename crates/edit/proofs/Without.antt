@@ -22,7 +22,6 @@ use Rattle.entries.proofs.LiveLists.{in-live}
 use Rattle.search.specs.Rules.{keyAt}
 use Rattle.entries.specs.Pairs.{Pair, pairOf, pairsOf}
 use Rattle.sound.specs.Sound.{SoundImage, SoundBut}
-use Rattle.counters.specs.Recount.{settle}
 use Rattle.sound.proofs.Sound.{sound-but}
 use Rattle.counters.specs.LowMarks.{LowKept, LowMarks}
 use Rattle.counters.proofs.Recounting.{settle-sound, settle-pairs}
@@ -64,7 +63,8 @@ module _ (z : Shape) (img : List ℕ) (sound : SoundImage z img) (key : List ℕ
   entry-sound none f = every
   entry-sound (some e) f = removal-sound z img every e (find-live z img key e f .0)
 
-  entry-lows : (o : Option Live) → find z img key ≡ o → (u : ℕ) → IsTier z u → (List·Memᴰ u (left o) → ⊥) → LowKept z img (withoutEntry z img o) u
+  entry-lows : (o : Option Live) → find z img key ≡ o → (u : ℕ) → IsTier z u → (List·Memᴰ u (left o) → ⊥)
+      → LowKept z img (withoutEntry z img o) u
   unfolding withoutEntry
   entry-lows none f u is out = low-stays
   entry-lows (some e) f u is out = low-only (removal-only z img every e (find-live z img key e f .0)) is (λ q. out (List·Memᴰ·head q))
@@ -150,20 +150,14 @@ module _ (z : Shape) (img : List ℕ) (sound : SoundImage z img) (key : List ℕ
 
   -- ---- after a removal the counters have followed
 
-  removed-by : (o : Option Live) → removedEntry z img o ≡ settle z (withoutEntry z img o) (left o)
-  unfolding removedEntry withoutEntry settle
-  removed-by none = refl
-  removed-by (some e) = refl
-
-  remove-is : removeImage z img key ≡ settle z (without z img key) (left (find z img key))
-  unfolding removeImage without
-  remove-is = removed-by (find z img key)
-
   pub remove-sound : SoundImage z (removeImage z img key)
-  remove-sound = rw remove-is (settle-sound z (left (find z img key)) (without z img key) without-sound without-left)
+  unfolding removeImage removedEntry without
+  remove-sound = settle-sound z (removeTiers z img key) (without z img key) without-sound without-left
 
   pub remove-lows : LowMarks z img (removeImage z img key) (removeTiers z img key)
-  remove-lows = rw remove-is (settle-lows z (left (find z img key)) (without z img key) without-sound without-left without-lows)
+  unfolding removeImage removedEntry without
+  remove-lows = settle-lows z (removeTiers z img key) (without z img key) without-sound without-left without-lows
 
   pub remove-pairs : (F : Pair → ℕ) → total (pairsOf z (removeImage z img key)) F ≡ total (those (pairsOf z img) (λ p. not (same (p .key) key))) F
-  remove-pairs F = rw remove-is (settle-pairs z (left (find z img key)) (without z img key) without-sound without-left F ∙ without-pairs F)
+  unfolding removeImage removedEntry without
+  remove-pairs F = settle-pairs z (removeTiers z img key) (without z img key) without-sound without-left F ∙ without-pairs F

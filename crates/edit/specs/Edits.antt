@@ -36,14 +36,6 @@ withoutEntry z img (some e) = removeEntry z img e
 unfoldable pub without : Shape → List ℕ → List ℕ → List ℕ
 without z img key = withoutEntry z img (find z img key)
 
--- the image after a removal
-unfoldable pub removedEntry : Shape → List ℕ → Option Live → List ℕ
-removedEntry z img none = img
-removedEntry z img (some e) = settle z (removeEntry z img e) (e .tier ∷ [])
-
-unfoldable pub removeImage : Shape → List ℕ → List ℕ → List ℕ
-removeImage z img key = removedEntry z img (find z img key)
-
 -- the tiers that an entry leaves; those in which a removal frees chunks
 abbrev pub left : Option Live → List ℕ
 left none = []
@@ -51,6 +43,13 @@ left (some e) = e .tier ∷ []
 
 abbrev pub removeTiers : Shape → List ℕ → List ℕ → List ℕ
 removeTiers z img key = left (find z img key)
+
+-- the image after a removal: the counters of those tiers follow
+unfoldable pub removedEntry : Shape → List ℕ → Option Live → List ℕ
+removedEntry z img o = settle z (withoutEntry z img o) (left o)
+
+unfoldable pub removeImage : Shape → List ℕ → List ℕ → List ℕ
+removeImage z img key = removedEntry z img (find z img key)
 
 -- ---- store
 
