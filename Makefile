@@ -1,5 +1,5 @@
 # Two commands: `make demo` and `make test`. `make lib` and `make example` are for C and Rust; `make bench` measures.
-.PHONY: test demo lib example differential bench valgrind fuzz faults vectors cases
+.PHONY: test demo lib example header differential bench valgrind fuzz faults vectors cases
 
 # Everything that is built goes to target/.
 CARGO = CARGO_TARGET_DIR=$(CURDIR)/target/cargo cargo
@@ -17,17 +17,23 @@ demo:
 lib:
 	rt staticlib chronicle_map_c
 
-# Builds the examples in C, looks up both keys of the sample store, and asks for and sets delays by pair.
+# Builds the examples in C, looks up both keys of the sample store and one that is absent, and asks for and sets delays by pair.
 CC99 = gcc -std=c99 -Wall -Wextra -Werror -Iinclude
-example: lib examples/pairs.store
+example: lib header examples/pairs.store
 	$(CC99) examples/lookup.c target/staticlib/libchronicle_map_c.a -o target/lookup
 	$(CC99) examples/delay.c target/staticlib/libchronicle_map_c.a -o target/delay
 	target/lookup examples/pairs.store 1 2
 	target/lookup examples/pairs.store 2 1
+	target/lookup examples/pairs.store 1 3 || test $$? -eq 1
 	target/delay examples/pairs.store 1 2
 	target/delay examples/pairs.store 2 1
 	target/delay examples/pairs.store 2 1 40
 	target/delay examples/pairs.store 31 32 -25
+
+# The out structs have the layout of the compiled functions' arrays, and a caller with an array of the earlier header does not compile.
+header:
+	gcc -std=c11 -Wall -Wextra -Werror -Iinclude -fsyntax-only tests/header/layout.c
+	$(CC99) -fsyntax-only tests/header/old_array.c 2>&1 | grep -q "old_array.c.*error.*chronicle_map_lookup"
 
 # The lister's sample without the length between block and image.
 examples/pairs.store: crates/lister/stdin

@@ -1,5 +1,5 @@
 /*
- * lookup FILE A B: prints the delay between microphones A and B.
+ * lookup FILE A B: prints the delay between microphones A and B, or where the search for the pair ended.
  * FILE holds a settings block of 71 bytes and after it the image. The key is the two bytes A B; the record is
  * a signed number of 4 bytes, little-endian, in microseconds.
  */
@@ -35,7 +35,7 @@ static int32_t little_endian(const uint8_t *b)
 int main(int argc, char **argv)
 {
     uint8_t key[2];
-    uint64_t place[2];
+    struct chronicle_map_place place;
     size_t size, block_len;
     uint8_t *bytes;
     const uint8_t *image;
@@ -52,13 +52,15 @@ int main(int argc, char **argv)
     }
     block_len = size < BLOCK_LENGTH ? size : BLOCK_LENGTH;
     image = bytes + block_len;
-    answer = chronicle_map_lookup(bytes, block_len, image, size - block_len, key, sizeof key, place);
-    if (answer != CHRONICLE_MAP_DONE)
+    answer = chronicle_map_lookup(bytes, block_len, image, size - block_len, key, sizeof key, &place);
+    if (answer == CHRONICLE_MAP_ABSENT)
+        printf("%u %u: absent, search ended in tier %" PRIu64 ", slot %" PRIu64 "\n", key[0], key[1], place.tier, place.slot);
+    else if (answer != CHRONICLE_MAP_DONE)
         printf("%u %u: answer %" PRIu32 "\n", key[0], key[1], answer);
-    else if (place[1] != 4)
-        printf("%u %u: a record of %" PRIu64 " bytes\n", key[0], key[1], place[1]);
+    else if (place.length != 4)
+        printf("%u %u: a record of %" PRIu64 " bytes\n", key[0], key[1], place.length);
     else
-        printf("%u %u: %" PRId32 " microseconds\n", key[0], key[1], little_endian(image + place[0]));
+        printf("%u %u: %" PRId32 " microseconds\n", key[0], key[1], little_endian(image + place.offset));
     free(bytes);
     return answer == CHRONICLE_MAP_DONE ? 0 : 1;
 }

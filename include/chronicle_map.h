@@ -11,11 +11,10 @@
  * What a caller owes
  * ------------------
  *   - Each pointer points to as many readable bytes as the length beside it says, `image` of a store, a removal
- *     or a set to as many writable ones, an out array to room for its numbers, aligned as uint64_t is, and
- *     `delay` of an ask to room for one number, aligned as int32_t is.
+ *     or a set to as many writable ones, an out struct to one of its type, and `delay` of an ask to one number.
  *   - No pointer is null. A length of 0 may come with any other pointer.
  *   - The image of a store, a removal or a set overlaps no other argument: a key or a record that stands in the
- *     image is copied out before it is given. An out array and `delay` of an ask overlap no other argument
+ *     image is copied out before it is given. An out struct and `delay` of an ask overlap no other argument
  *     either. What is only read (`const`) may overlap what is only read.
  *   - While a call runs, nobody else writes to what it was given, and nobody else reads what it may write.
  *     Calls on different images may run at the same time, and so may calls that only read one image.
@@ -35,8 +34,8 @@ extern "C" {
 
 /*
  * The number that a call returns. Of those that apply the first is given, in the order 2 to 8, 11, 12, 9; only
- * where none of these applies, 0, 1 or 10. With any number but 0 the out array is all zeros, the delay of an ask
- * is 0, and the image is as it was before the call.
+ * where none of these applies, 0, 1 or 10. With any number but 0 the out struct is all zeros, the delay of an ask
+ * is 0, and the image is as it was before the call; there is one exception, the place of a lookup that returns 1.
  */
 enum {
     CHRONICLE_MAP_DONE = 0,    /* done, or found */
@@ -55,23 +54,55 @@ enum {
 };
 
 /*
+ * What a call tells beside its number. Each struct is as many uint64_t in a row as it has fields, all of them
+ * written on every call. Segments, slots and chunks are counted from 0, tiers from 1.
+ */
+
+/* Of an accepted image. */
+struct chronicle_map_counts {
+    uint64_t entries; /* live entries */
+    uint64_t chunks;  /* marked chunks */
+    uint64_t tiers;   /* tiers in the segments' chains */
+    uint64_t free;    /* tiers in the free chain */
+};
+
+/* Of a record. */
+struct chronicle_map_place {
+    uint64_t offset; /* where in the image it starts */
+    uint64_t length; /* its length in bytes */
+    uint64_t tier;   /* the tier of its entry */
+    uint64_t slot;   /* the slot of its entry in that tier */
+};
+
+/* Of a live entry. */
+struct chronicle_map_row {
+    uint64_t segment;
+    uint64_t tier;
+    uint64_t slot;
+    uint64_t chunk;        /* its first chunk in that tier */
+    uint64_t chunks;       /* how many chunks it takes */
+    uint64_t key_length;   /* in bytes */
+    uint64_t value_length; /* the record's, in bytes */
+};
+
+/*
  * Checks the block and the whole image. Returns 0 or one of 2 to 7.
- * counts: live entries, marked chunks, chained tiers, free tiers.
  */
 uint32_t chronicle_map_check(const uint8_t *block, size_t block_len,
                              const uint8_t *image, size_t image_len,
-                             uint64_t counts[4]);
+                             struct chronicle_map_counts *counts);
 
 /*
  * Looks up the record under a key. Keys are compared whole. Returns 0, 1 or one of 2 to 8.
- * place: the offset in the image at which the record starts, and its length in bytes. The record is
- * image + place[0], within the image, and stays there until a store or a removal. An empty record is found
- * with length 0; an absent key returns 1.
+ * With 0 the record is the `length` bytes from image + `offset` on, within the image, and stays there until a
+ * store or a removal; an empty record is found with length 0. With 1 the key is absent, and tier and slot say
+ * where the search for it ended: in the last tier of the chain of the key's segment, at the first empty slot
+ * from the key's start slot on, wrapping. A store of that key may go to another tier or slot.
  */
 uint32_t chronicle_map_lookup(const uint8_t *block, size_t block_len,
                               const uint8_t *image, size_t image_len,
                               const uint8_t *key, size_t key_len,
-                              uint64_t place[2]);
+                              struct chronicle_map_place *place);
 
 /*
  * Stores a record under a key. A record that is already there under the same key is replaced; every other
@@ -92,11 +123,10 @@ uint32_t chronicle_map_remove(const uint8_t *block, size_t block_len,
 /*
  * Gives the n-th live entry, n from 0, by segment, then by the order of the segment's tiers, then by slot.
  * Returns 0, 1 where n is past the last entry, or one of 2 to 7. Each call checks the whole image anew.
- * row: segment, tier, slot, first chunk, number of chunks, length of the key, length of the record.
  */
 uint32_t chronicle_map_entry(const uint8_t *block, size_t block_len,
                              const uint8_t *image, size_t image_len,
-                             uint64_t n, uint64_t row[7]);
+                             uint64_t n, struct chronicle_map_row *row);
 
 /*
  * Delays by pair of channels, 1 to 32, in microseconds. A pair is kept once, under the key of two bytes with the

@@ -20,12 +20,12 @@ static void need(int holds) {
 
 /* An edit's answer, at most `most`, held to what the header says of it. */
 static void edited(uint32_t number, uint32_t most, const uint8_t *block, const uint8_t *before, const uint8_t *after, size_t length) {
-    uint64_t counts[4];
+    struct chronicle_map_counts counts;
     need(number <= most);
     if (number != 0) {
         need(memcmp(before, after, length) == 0);
     } else {
-        need(chronicle_map_check(block, BLOCK, after, length, counts) == 0);
+        need(chronicle_map_check(block, BLOCK, after, length, &counts) == 0);
     }
 }
 
@@ -65,6 +65,27 @@ static void pairs(uint32_t check, const uint8_t *block, const uint8_t *image, ui
     }
 }
 
+/* A lookup, held to what the header says of it, and the list: the entry in the tier and slot of a found key has a key and a record of the
+ * right lengths; in those of an absent one there is none. */
+static void looked(uint32_t check, const uint8_t *block, const uint8_t *image, size_t length, const uint8_t *key, size_t key_length, uint64_t entries) {
+    struct chronicle_map_place place = {1, 1, 1, 1};
+    struct chronicle_map_row row;
+    uint32_t found = chronicle_map_lookup(block, BLOCK, image, length, key, key_length, &place);
+    int met = 0;
+    need(check == 0 || found == check);
+    need(found != 0 || place.offset + place.length <= length);
+    need(found == 0 || (place.offset == 0 && place.length == 0));
+    need(found <= 1 ? place.tier != 0 : place.tier == 0 && place.slot == 0);
+    for (uint64_t n = 0; check == 0 && n <= entries; n++) {
+        need(chronicle_map_entry(block, BLOCK, image, length, n, &row) == (n == entries));
+        if (n < entries && found <= 1 && row.tier == place.tier && row.slot == place.slot) {
+            need(found == 0 && row.key_length == key_length && row.value_length == place.length);
+            met = 1;
+        }
+    }
+    need(found != 0 || met);
+}
+
 int LLVMFuzzerTestOneInput(const uint8_t *data, size_t size) {
     if (size < PAIR + 1 || size < PAIR + 1 + (size_t)data[PAIR] + BLOCK) {
         return 0;
@@ -76,14 +97,9 @@ int LLVMFuzzerTestOneInput(const uint8_t *data, size_t size) {
     const uint8_t *block = key + key_length;
     const uint8_t *image = block + BLOCK;
     size_t length = size - PAIR - 1 - key_length - BLOCK;
-    uint64_t counts[4], place[2], row[7];
-    uint32_t number = chronicle_map_check(block, BLOCK, image, length, counts);
-    uint32_t found = chronicle_map_lookup(block, BLOCK, image, length, key, key_length, place);
-    need(number == 0 || found == number);
-    need(found != 0 || place[0] + place[1] <= length);
-    for (uint64_t n = 0; number == 0 && n <= counts[0]; n++) {
-        need(chronicle_map_entry(block, BLOCK, image, length, n, row) == (n == counts[0]));
-    }
+    struct chronicle_map_counts counts;
+    uint32_t number = chronicle_map_check(block, BLOCK, image, length, &counts);
+    looked(number, block, image, length, key, key_length, counts.entries);
     uint8_t *copy = malloc(length + 1);
     memcpy(copy, image, length);
     edited(chronicle_map_store(block, BLOCK, copy, length, key, key_length, key, key_length), 10, block, image, copy, length);

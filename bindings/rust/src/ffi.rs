@@ -84,8 +84,8 @@ pub fn check(block: &[u8], image: &[u8], counts: &mut [u64; 4]) -> u32 {
     }
 }
 
-/// A lookup: its number; the place is the record's offset and length.
-pub fn lookup(block: &[u8], image: &[u8], key: &[u8], place: &mut [u64; 2]) -> u32 {
+/// A lookup: its number; the place is the record's offset and length, and the tier and slot of its entry or of the search's end.
+pub fn lookup(block: &[u8], image: &[u8], key: &[u8], place: &mut [u64; 4]) -> u32 {
     // SAFETY: as in `check`.
     unsafe {
         c::chronicle_map_lookup(

@@ -110,6 +110,39 @@ pub struct Counts {
     pub free: u64,
 }
 
+/// What a lookup finds. Tiers are counted from 1, slots from 0.
+#[derive(Clone, Copy, Debug, PartialEq, Eq, Hash)]
+pub enum Located {
+    /// The record under the whole key.
+    Found {
+        /// Where in the image it starts.
+        offset: usize,
+        /// Its length in bytes.
+        length: usize,
+        /// The tier of its entry.
+        tier: u64,
+        /// The slot of its entry in that tier.
+        slot: u64,
+    },
+    /// No record: where the search ended. A store of the key may go to another tier or slot.
+    Absent {
+        /// The last tier of the chain of the key's segment.
+        tier: u64,
+        /// The first empty slot in that tier from the key's start slot on, wrapping.
+        slot: u64,
+    },
+}
+
+impl Located {
+    /// The bytes of the image that the record has, within the image and perhaps none; `None` where there is no record.
+    pub fn range(self) -> Option<Range<usize>> {
+        match self {
+            Located::Found { offset, length, .. } => Some(offset..offset + length),
+            Located::Absent { .. } => None,
+        }
+    }
+}
+
 /// Where a live entry stands, and its lengths.
 #[derive(Clone, Copy, Debug, PartialEq, Eq, Hash)]
 pub struct Row {
@@ -146,24 +179,28 @@ pub fn check(block: &[u8], image: &[u8]) -> Result<Counts, Refusal> {
     }
 }
 
-/// Where in the image the record of a key stands; `None` where the key is absent. Refusals: `Block` to `Key`.
+/// Where the record of a key stands; where the key is absent, where the search for it ended. Refusals: `Block` to `Key`.
 ///
-/// Keys are compared whole. The range lies within the image and may be empty.
-pub fn lookup(block: &[u8], image: &[u8], key: &[u8]) -> Result<Option<Range<usize>>, Refusal> {
-    let mut place = [0; 2];
-    match ffi::lookup(block, image, key, &mut place) {
-        0 => {
-            let [at, length] = place.map(|n| n as usize);
-            Ok(Some(at..at + length))
-        }
-        1 => Ok(None),
+/// Keys are compared whole.
+pub fn lookup(block: &[u8], image: &[u8], key: &[u8]) -> Result<Located, Refusal> {
+    let mut place = [0; 4];
+    let number = ffi::lookup(block, image, key, &mut place);
+    let [offset, length, tier, slot] = place;
+    match number {
+        0 => Ok(Located::Found {
+            offset: offset as usize,
+            length: length as usize,
+            tier,
+            slot,
+        }),
+        1 => Ok(Located::Absent { tier, slot }),
         number => Err(Refusal::of(number)),
     }
 }
 
 /// The record of a key, as a part of the image; `None` where the key is absent. Refusals: `Block` to `Key`.
 pub fn record<'a>(block: &[u8], image: &'a [u8], key: &[u8]) -> Result<Option<&'a [u8]>, Refusal> {
-    Ok(lookup(block, image, key)?.map(|place| &image[place]))
+    Ok(lookup(block, image, key)?.range().map(|part| &image[part]))
 }
 
 /// Stores a record under a key, or replaces the one that is there. Every other key keeps its record.

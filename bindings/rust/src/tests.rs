@@ -31,11 +31,36 @@ fn the_check_counts() {
 #[test]
 fn each_key_finds_its_own_record() {
     let (block, image) = pairs();
-    assert_eq!(lookup(block, &image, &[1, 2]), Ok(Some(236..240)));
-    assert_eq!(lookup(block, &image, &[2, 1]), Ok(Some(244..248)));
+    let found = |offset, slot| {
+        Ok(Located::Found {
+            offset,
+            length: 4,
+            tier: 1,
+            slot,
+        })
+    };
+    assert_eq!(lookup(block, &image, &[1, 2]), found(236, 1));
+    assert_eq!(lookup(block, &image, &[2, 1]), found(244, 2));
     assert_eq!(stored(block, &image, [1, 2]), Some(16));
     assert_eq!(stored(block, &image, [2, 1]), Some(-16));
     assert_eq!(stored(block, &image, [3, 1]), None);
+}
+
+// The search goes on to the last tier, and wraps.
+#[test]
+fn an_absent_key_says_where_the_search_ended() {
+    let (block, mut image) = pairs();
+    let absent = |tier, slot| Ok(Located::Absent { tier, slot });
+    assert_eq!(lookup(block, &image, &[3, 1]), absent(1, 3));
+    assert_eq!(store(block, &mut image, &[3, 1], &[0; 4]), Ok(()));
+    assert_eq!(lookup(block, &image, &[1, 3]), absent(1, 0));
+    assert_eq!(store(block, &mut image, &[1, 3], &[0; 4]), Ok(()));
+    assert_eq!(
+        lookup(block, &image, &[1, 3]).map(Located::range),
+        Ok(Some(436..440))
+    );
+    assert_eq!(lookup(block, &image, &[4, 1]), absent(2, 2));
+    assert_eq!(lookup(block, &image, &[4, 1]).map(Located::range), Ok(None));
 }
 
 #[test]

@@ -23,6 +23,11 @@ module _ (z : Shape) (img : List ℕ) (s : ℕ) where
       rw e (record { along = along-starts (nextOf z img) (tiers z) (suc s); count = refl; mostIs = em })
 
   module _ {most : ℕ} {done : List ℕ} {t k : ℕ} (w : AlongChain most done t k) where
+    -- the tiers that were met, and those from t on
+    pub chain-left : chain z img s ≡ done ++ follow z img (tiers z - k) t
+    unfolding chain
+    chain-left = rw (← w .count) (w .along .splits)
+
     pub chain-ends : t ≡ 0 → done ≡ chain z img s
     unfolding chain
     chain-ends e = along-ends (w .along) e

@@ -1,21 +1,21 @@
 -- A segment's chain, and the chains of the segments one after the other.
 use Prim.Native.Nat.{ℕ, zero, suc, _+_, _-_, _*_, _^_, _≤_, _<_}
-use mathlib.Core.List.{List, [], _∷_, _++_, flatMap}
+use mathlib.Core.List.{List, [], _∷_, _++_, flatMap, List·Memᴰ}
 use mathlib.Core.Path.{_≡_, refl, ap, sym, _∙_}
 use mathlib.Core.Logic.{_≢_}
 use native.Mathlib.Omega.{arith}
 use native.Mathlib.Numerals.{add-one}
-use lib.ListN.{length, drop, length-append}
+use lib.ListN.{length, getD, drop, length-append}
 use Rattle.lists.specs.Lists.{span}
 use Rattle.lists.specs.Quantify.{Below, below-suc}
-use Rattle.lists.proofs.Lists.{flatMap-below}
+use Rattle.lists.proofs.Lists.{member, last-after, flatMap-below}
 use Rattle.links.proofs.Follow.{follow-more, end-more, length-follow}
 use Rattle.settings.specs.declared.Settings.{Settings}
 use Rattle.layout.specs.declared.Shape.{Shape}
 use Rattle.layout.specs.Tiers.{tiers}
 use Rattle.layout.specs.Frame.{Framed}
 use Rattle.chains.specs.declared.Walked.the-variants.{Ended, Lost}
-use Rattle.chains.specs.Chains.{follow, endOf, nextOf, chain, chainedExtra, ChainFits}
+use Rattle.chains.specs.Chains.{follow, endOf, nextOf, chain, lastTier, chainedExtra, ChainFits}
 use Rattle.chains.specs.Walk.{tally, Met, extrasOf, extrasBefore, AllWalk, MetAtMost, Counting}
 use Rattle.chains.proofs.Tally.{tally-append, length-tally, met-tally}
 
@@ -47,6 +47,16 @@ module _ (z : Shape) (img : List ℕ) where
 
     pub chain-length : length (chain z img s) ≡ suc (length (extrasOf z img s))
     chain-length = ap length chain-cons ∙ ap (λ (r : List ℕ). suc (length r)) (sym extras-of)
+
+    pub chain-some : 0 < length (chain z img s)
+    chain-some = omega (arith, chain-length)
+
+    pub last-in : List·Memᴰ (lastTier z img s) (chain z img s)
+    last-in = member (chain z img s) (length (chain z img s) - 1) (omega (arith, chain-some))
+
+    -- the last tier, where 0 is met before the first
+    pub last-met : getD (0 ∷ chain z img s) (length (chain z img s)) 0 ≡ lastTier z img s
+    last-met = last-after 0 (chain z img s) chain-some
 
 -- ---- the segments one after the other
 

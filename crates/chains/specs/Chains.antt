@@ -1,5 +1,5 @@
 -- The chains of tiers: refusal 5.
-use Prim.Native.Nat.{ℕ, suc, _*_}
+use Prim.Native.Nat.{ℕ, suc, _*_, _-_}
 use mathlib.Core.List.{List, _∷_, _++_, flatMap}
 use mathlib.Core.Path.{_≡_}
 use native.Mathlib.Decide.{decLe, decLt, ℕ-discrete}
@@ -36,6 +36,10 @@ module _ (z : Shape) (img : List ℕ) where
   -- segment s's chain, and the free chain
   unfoldable pub chain : ℕ → List ℕ
   chain s = follow (tiers z) (suc s)
+
+  -- the last tier of segment s's chain
+  abbrev pub lastTier : ℕ → ℕ
+  lastTier s = getD (chain s) (length (chain s) - 1) 0
 
   abbrev pub freeHead : ℕ
   freeHead = get z img (global firstFree)

@@ -34,7 +34,7 @@ use Rattle.edit.proofs.Replacing.{live-key-fits}
 use Rattle.entries.proofs.LiveLists.{live-in}
 use Rattle.chronicle_map.specs.declared.Located.the-variants as looked
 use Rattle.chronicle_map.specs.Asked.{aKey, anEntry, GivenKeyFits, givenKeyFits?, GivenValueFits, givenValueFits?, afterValue, afterKey}
-use Rattle.chronicle_map.specs.Calls.{fromFind, lookedUp, lookup, answerNumber, remove, store}
+use Rattle.chronicle_map.specs.Calls.{placeOf, searchEnd, fromFind, lookedUp, lookup, answerNumber, remove, store}
 use Rattle.chronicle_map.specs.History.{Said, stores, removes, says, leaves, row10, Map, hasKey, mapOf, mapGet, mapDrop, mapSet, mapRemove, mapStore, unlessValue, unlessKey, unless, recall}
 use Rattle.chronicle_map.specs.Demands.{Accepted, shape, Fits, LooksUp, Alters, Demand2}
 use Rattle.chronicle_map.proofs.Weights.{Weigh}
@@ -142,7 +142,7 @@ module _ (block img : List ℕ) (b : Bytes img) (a : Accepted block img) where
 
   -- a lookup
 
-  lookup-is : (key : List ℕ) → KeyFits (z .settings) key → lookup block img key ≡ fromFind (find z img key)
+  lookup-is : (key : List ℕ) → KeyFits (z .settings) key → lookup block img key ≡ fromFind z img key (find z img key)
   unfolding lookup lookedUp afterKey afterValue
   lookup-is key k =
       ap (lookedUp img key)
@@ -155,15 +155,16 @@ module _ (block img : List ℕ) (b : Bytes img) (a : Accepted block img) where
   looks-up key = record { stored = there; none = not-there }
     where
       there : (e : Live) → List·Memᴰ e (live z img) → keyOf img (e .entry) ≡ key
-          → lookup block img key ≡ looked.Found (e .entry .valueAt) (e .entry .valueLength)
+          → lookup block img key ≡ looked.Found (placeOf e)
       there e m k =
           let fits : KeyFits (z .settings) key = rw k at (live-key-fits z img (h .sound) e (live-in z img e m)) in
-          lookup-is key fits ∙ ap fromFind (found-only z img (h .sound) key e m k)
+          lookup-is key fits ∙ ap (fromFind z img key) (found-only z img (h .sound) key e m k)
 
-      not-there : KeyFits (settingsOf block) key → mapGet (mapOf block img) key ≡ none → lookup block img key ≡ looked.Absent
+      not-there : KeyFits (settingsOf block) key → mapGet (mapOf block img) key ≡ none
+          → lookup block img key ≡ looked.Absent (searchEnd z img key)
       not-there k g =
           lookup-is key (subst (λ (st : Settings). KeyFits st key) (sym (shape-settings (settingsOf block) img)) k)
-          ∙ ap fromFind (by-find (find z img key) refl)
+          ∙ ap (fromFind z img key) (by-find (find z img key) refl)
         where
           by-find : (o : Option Live) → find z img key ≡ o → o ≡ none
           by-find none f = refl

@@ -11,13 +11,17 @@ use borrow.Rule.Slice.PartAt.{slPart}
 use Rattle.words.specs.Bytes.{Bytes}
 use Rattle.layout.specs.declared.Shape.{Shape}
 use Rattle.settings.specs.Rules.{largest}
+use Rattle.chains.specs.Chains.{lastTier}
 use Rattle.entries.specs.declared.Entry.{Entry}
 use Rattle.entries.specs.declared.Live.{Live}
+use Rattle.entries.specs.Keys.{segmentOf}
 use Rattle.entries.specs.Live.{entryAt, liveAt}
+use Rattle.entries.proofs.Hashes.{segment-lt}
 use Rattle.entries.proofs.LiveLists.{live-in}
 use Rattle.search.specs.declared.Found.{Found}
 use Rattle.search.specs.declared.Found.the-variants.{At, Absent}
-use Rattle.search.specs.Search.{search}
+use Rattle.search.specs.Search.{firstEmpty, search}
+use Rattle.search.proofs.Finding.{search-absent}
 use Rattle.sound.specs.Sound.{SoundImage}
 use Rattle.counters.specs.Recount.{settle}
 use Rattle.edit.specs.Edits.{find, withoutEntry, removedEntry, removeImage, noRoom}
@@ -28,55 +32,65 @@ use Rattle.image.specs.declared.Stage.{Stage}
 use Rattle.image.specs.declared.Counts.{Counts}
 use Rattle.image.specs.declared.Examined.{Examined}
 use Rattle.image.specs.declared.Examined.the-variants.{Ready, Refused}
+use Rattle.chronicle_map.specs.declared.RecordPlace.{RecordPlace}
+use Rattle.chronicle_map.specs.declared.SearchEnd.{SearchEnd}
 use Rattle.chronicle_map.specs.declared.Located.{Located}
 use Rattle.chronicle_map.specs.declared.Located.the-variants as located
 use Rattle.chronicle_map.specs.declared.Answer.{Answer}
 use Rattle.chronicle_map.specs.declared.Answer.the-variants as answer
 use Rattle.chronicle_map.specs.Asked.{aKey, anEntry, asked}
-use Rattle.chronicle_map.specs.Calls.{fromFind, lookedUp, lookup, recordAt, recordLength, PartOf, RecordOf, removeFound, removing, remove, storeUnless, storing, store}
+use Rattle.chronicle_map.specs.Calls.{placeOf, fromFind, lookedUp, lookup, recordAt, recordLength, PartOf, RecordOf, removeFound, removing, remove, storeUnless, storing, store}
 use Rattle.chronicle_map.proofs.Asking.{key-sound}
 
 -- ---- lookup
 
 module _ (z : Shape) (img : List ℕ) (sound : SoundImage z img) (key : List ℕ) (r : Found) (e : r ≡ search z img key) (t j : ℕ) where
-  pub looked-none : r ≡ Absent t j → located.Absent ≡ fromFind (find z img key)
+  pub looked-none : r ≡ Absent t j → located.Absent (record { tier = t; slot = j }) ≡ fromFind z img key (find z img key)
   unfolding fromFind
-  looked-none f = rw (search-none z img sound key t j (sym e ∙ f))
+  looked-none f =
+      let end : (t ≡ lastTier z img (segmentOf (z .settings) key)) × (j ≡ firstEmpty z img key t) =
+      search-absent z img key (segment-lt (sound .fits .valid) key) t j (sym e ∙ f) in
+      let slot-is : j ≡ firstEmpty z img key (lastTier z img (segmentOf (z .settings) key)) = end .1 ∙ ap (firstEmpty z img key) (end .0) in
+      rw (search-none z img sound key t j (sym e ∙ f)) (λ i. located.Absent (record { tier = end .0 i; slot = slot-is i }))
 
-  pub looked-found : r ≡ At t j → {x : Entry} → x ≡ entryAt z img t j → located.Found (x .valueAt) (x .valueLength) ≡ fromFind (find z img key)
+  pub looked-found : r ≡ At t j → {x : Entry} → x ≡ entryAt z img t j
+      → located.Found (record { offset = x .valueAt; length = x .valueLength; tier = t; slot = j }) ≡ fromFind z img key (find z img key)
   unfolding fromFind liveAt
-  looked-found f ex = rw (search-found z img sound key t j (sym e ∙ f)) (λ i. located.Found (ex i .valueAt) (ex i .valueLength))
+  looked-found f ex =
+      rw (search-found z img sound key t j (sym e ∙ f))
+      (λ i. located.Found (record { offset = ex i .valueAt; length = ex i .valueLength; tier = t; slot = j }))
 
 module _ (block img key : List ℕ) {x : Examined} (ex : x ≡ asked block img (aKey key)) where
   pub lookup-refused : (s : Stage) → x ≡ Refused s → located.Refused s ≡ lookup block img key
   unfolding lookup lookedUp
   lookup-refused s e = ap (lookedUp img key) (sym e ∙ ex)
 
-  pub lookup-ready : (z : Shape) (c : Counts) → x ≡ Ready z c → {r : Located} → r ≡ fromFind (find z img key) → r ≡ lookup block img key
+  pub lookup-ready : (z : Shape) (c : Counts) → x ≡ Ready z c → {r : Located} → r ≡ fromFind z img key (find z img key) → r ≡ lookup block img key
   unfolding lookup lookedUp
   lookup-ready z c e er = er ∙ ap (lookedUp img key) (sym e ∙ ex)
 
 -- ---- the record: a found one stands within the image
 
-found-by : (z : Shape) (img key : List ℕ) → SoundImage z img → (o : Option Live) → find z img key ≡ o → (at n : ℕ)
-    → fromFind o ≡ located.Found at n → (at + n ≤ length img) × (length img ≤ largest)
+found-by : (z : Shape) (img key : List ℕ) → SoundImage z img → (o : Option Live) → find z img key ≡ o → (p : RecordPlace)
+    → fromFind z img key o ≡ located.Found p → (p .offset + p .length ≤ length img) × (length img ≤ largest)
 unfolding fromFind
-found-by z img key sound none f at n e = absurd (let q : _≡_ {A = ℕ} 0 1 = cc in omega arith)
-found-by z img key sound (some x) f at n e =
-    let a : x .entry .valueAt ≡ at = cc in
-    let b : x .entry .valueLength ≡ n = cc in
+found-by z img key sound none f p e = absurd (let q : _≡_ {A = ℕ} 0 1 = cc in omega arith)
+found-by z img key sound (some x) f p e =
+    let q : placeOf x ≡ p = cc in
+    let a : x .entry .valueAt ≡ p .offset = ap (λ (y : RecordPlace). y .offset) q in
+    let b : x .entry .valueLength ≡ p .length = ap (λ (y : RecordPlace). y .length) q in
     (omega (arith, live-value z img sound x (live-in z img x (find-live z img key x f .0))), sound .fits .frame .imageLength .1)
 
-within-by : (block img key : List ℕ) → Bytes img → (x : Examined) → x ≡ asked block img (aKey key) → (at n : ℕ)
-    → lookedUp img key x ≡ located.Found at n → (at + n ≤ length img) × (length img ≤ largest)
+within-by : (block img key : List ℕ) → Bytes img → (x : Examined) → x ≡ asked block img (aKey key) → (p : RecordPlace)
+    → lookedUp img key x ≡ located.Found p → (p .offset + p .length ≤ length img) × (length img ≤ largest)
 unfolding lookedUp
-within-by block img key b (Refused s) ex at n e = absurd (let q : _≡_ {A = ℕ} 0 1 = cc in omega arith)
-within-by block img key b (Ready z c) ex at n e = found-by z img key (key-sound block img key z c ex refl b) (find z img key) refl at n e
+within-by block img key b (Refused s) ex p e = absurd (let q : _≡_ {A = ℕ} 0 1 = cc in omega arith)
+within-by block img key b (Ready z c) ex p e = found-by z img key (key-sound block img key z c ex refl b) (find z img key) refl p e
 
-pub record-within : (block img key : List ℕ) (r : Located) → r ≡ lookup block img key → Bytes img → (at n : ℕ) → r ≡ located.Found at n
-    → (at + n ≤ length img) × (length img ≤ largest)
+pub record-within : (block img key : List ℕ) (r : Located) → r ≡ lookup block img key → Bytes img → (p : RecordPlace) → r ≡ located.Found p
+    → (p .offset + p .length ≤ length img) × (length img ≤ largest)
 unfolding lookup
-record-within block img key r er b at n e = within-by block img key b (asked block img (aKey key)) refl at n (sym er ∙ e)
+record-within block img key r er b p e = within-by block img key b (asked block img (aKey key)) refl p (sym er ∙ e)
 
 -- the part of a lent slice from place `at` up to place at + n
 part-of : (lent : RefT (List ℕ)) (at n γ : ℕ) → PartOf lent at n (slPart lent (at + lent .ptr .1) at (at + n) γ)
@@ -92,14 +106,15 @@ module _ (block : List ℕ) (img : RefT (List ℕ)) (key : List ℕ) (r : Locate
       subst (λ (x : Located). RecordOf img x (slPart img (recordAt l + img .ptr .1) (recordAt l) (recordAt l + recordLength l) γ)) (sym e ∙ er)
       (part-of img (recordAt l) (recordLength l) γ)
 
-  pub record-found : (at n : ℕ) → r ≡ located.Found at n → (γ : ℕ)
-      → RecordOf img (lookup block (now img) key) (slPart img (at + img .ptr .1) at (at + n) γ)
+  pub record-found : (p : RecordPlace) → r ≡ located.Found p → (γ : ℕ)
+      → RecordOf img (lookup block (now img) key) (slPart img (p .offset + img .ptr .1) (p .offset) (p .offset + p .length) γ)
   unfolding recordAt recordLength
-  record-found at n e γ = record-is (located.Found at n) e γ
+  record-found p e γ = record-is (located.Found p) e γ
 
-  pub record-absent : r ≡ located.Absent → (γ : ℕ) → RecordOf img (lookup block (now img) key) (slPart img (0 + img .ptr .1) 0 0 γ)
+  pub record-absent : (end : SearchEnd) → r ≡ located.Absent end → (γ : ℕ)
+      → RecordOf img (lookup block (now img) key) (slPart img (0 + img .ptr .1) 0 0 γ)
   unfolding recordAt recordLength
-  record-absent e γ = record-is located.Absent e γ
+  record-absent end e γ = record-is (located.Absent end) e γ
 
   pub record-refused : (s : Stage) → r ≡ located.Refused s → (γ : ℕ)
       → RecordOf img (lookup block (now img) key) (slPart img (0 + img .ptr .1) 0 0 γ)

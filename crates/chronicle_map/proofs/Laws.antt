@@ -20,10 +20,11 @@ use Rattle.image.specs.declared.Examined.the-variants.{Ready, Refused}
 use Rattle.image.specs.Check.{examine, verdictOf, check}
 use Rattle.edit.specs.Edits.{find}
 use Rattle.edit.proofs.Finding.{find-live}
+use Rattle.chronicle_map.specs.declared.RecordPlace.{RecordPlace}
 use Rattle.chronicle_map.specs.declared.Located.the-variants as looked
 use Rattle.chronicle_map.specs.declared.Answer.the-variants as answer
 use Rattle.chronicle_map.specs.Asked.{Given, aKey, anEntry, afterExamined, asked}
-use Rattle.chronicle_map.specs.Calls.{lookup, recordAt, recordLength, recordBytes, store}
+use Rattle.chronicle_map.specs.Calls.{placeOf, searchEnd, lookup, recordAt, recordLength, recordBytes, store}
 use Rattle.chronicle_map.specs.History.{stores, leaves, mapOf, mapGet}
 use Rattle.chronicle_map.specs.Demands.{Accepted, shape}
 use Rattle.chronicle_map.proofs.Accepting.{Holds, accepted-holds}
@@ -58,10 +59,9 @@ module _ (block img : List ℕ) (s : Stage) (e : check block img ≡ record { ou
 
 -- the record of this key and record is found
 pub record Looked (block img key : List ℕ) (p : Pair) : Type 0 where
-  pub at : ℕ
-  pub n : ℕ
-  pub found : lookup block img key ≡ looked.Found at n
-  pub bytes : recordBytes img (looked.Found at n) ≡ p .value
+  pub place : RecordPlace
+  pub found : lookup block img key ≡ looked.Found place
+  pub bytes : recordBytes img (looked.Found place) ≡ p .value
 
 module _ (block img : List ℕ) (b : Bytes img) (a : Accepted block img) where
   abbrev z : Shape
@@ -86,13 +86,13 @@ module _ (block img : List ℕ) (b : Bytes img) (a : Accepted block img) where
           let q : some (pairOf img e) ≡ some p = sym (map-found z img (h .sound) (pairsOf z img) (λ F. refl) key e f) ∙ g in
           let s : pairOf img e ≡ p = cc in
           record {
-            at = e .entry .valueAt;
-            n = e .entry .valueLength;
+            place = placeOf e;
             found = demand2 block img b a .lookups key .stored e (r .0) (r .1);
             bytes = ap (λ (x : Pair). x .value) s;
           }
 
-  pub lookup-none : (key : List ℕ) → KeyFits (settingsOf block) key → mapGet (mapOf block img) key ≡ none → lookup block img key ≡ looked.Absent
+  pub lookup-none : (key : List ℕ) → KeyFits (settingsOf block) key → mapGet (mapOf block img) key ≡ none
+      → lookup block img key ≡ looked.Absent (searchEnd z img key)
   lookup-none key fits g = demand2 block img b a .lookups key .none fits g
 
   -- a store leaves bytes

@@ -8,6 +8,7 @@ pub mod Covered
 pub mod Keeping
 pub mod Highest
 pub mod Told
+pub mod Ended
 pub mod Refusing
 pub mod Altering
 pub mod LowMarks

@@ -1,31 +1,37 @@
 -- Demand 1: which numbers the calls answer, and what a refusal leaves, whatever they are given.
 use Prim.Native.Nat.{ℕ, _+_, _≤_, _<_}
 use mathlib.Core.List.{List, [], _∷_, List·Memᴰ·head, List·Memᴰ·tail}
-use mathlib.Core.Path.{_≡_, refl}
+use mathlib.Core.Path.{_≡_, refl, ap, subst}
 use mathlib.Core.Logic.{_≢_}
 use mathlib.Core.Bool.{Bool, true, false}
 use mathlib.Core.Option.{Option, none, some}
 use native.Mathlib.Omega.{arith}
-use lib.ListN.{length, replicate}
+use lib.ListN.{length, getD, replicate}
 use Rattle.lists.specs.Lists.{span}
 use Rattle.lists.proofs.Lists.{in-span}
 use Rattle.settings.specs.declared.Settings.{Settings}
+use Rattle.layout.specs.declared.Shape.{Shape}
 use Rattle.entries.specs.Keys.{KeyFits}
 use Rattle.entries.specs.declared.Live.{Live}
 use Rattle.entries.specs.Live.{live}
+use Rattle.image.specs.declared.Counts.{Counts}
 use Rattle.image.specs.declared.Nth.{Nth}
 use Rattle.image.specs.declared.Nth.the-variants.{At, After}
 use Rattle.image.specs.declared.Examined.{Examined}
 use Rattle.image.specs.declared.Examined.the-variants.{Ready, Refused}
 use Rattle.image.specs.Check.{stageNumber, examine, verdictOf, check, verdictNumbers}
 use Rattle.image.specs.List.{pick, fromNth, fromExamined, entry, listedNumbers}
+use Rattle.image.proofs.Ready.{Fitting, ready-fitting, ready-framed}
 use Rattle.edit.specs.Edits.{find, noRoom}
+use Rattle.chronicle_map.specs.declared.SearchEnd.{SearchEnd}
 use Rattle.chronicle_map.specs.declared.Located.{Located}
 use Rattle.chronicle_map.specs.declared.Located.the-variants as looked
 use Rattle.chronicle_map.specs.Asked.{aKey, anEntry, asked}
-use Rattle.chronicle_map.specs.Calls.{numberOf, fromFind, lookedUp, lookup, lookupNumbers, recordAt, recordLength, answerNumber, removeFound, removing, remove, storeUnless, storing, store}
-use Rattle.chronicle_map.specs.Demands.{Answers, Demand1}
+use Rattle.chronicle_map.specs.Calls.{numberOf, searchEnd, fromFind, lookedUp, lookup, lookupNumbers, recordAt, recordLength, answerNumber, removeFound, removing, remove, storeUnless, storing, store}
+use Rattle.chronicle_map.specs.Demands.{Answers, shape, Ended, LookupAnswers, Demand1}
+use Rattle.chronicle_map.proofs.Asking.{key-ready}
 use Rattle.chronicle_map.proofs.Highest.{Most, Not8, stage-least, examine-most, asked-most, asked-not-8}
+use Rattle.chronicle_map.proofs.Ended.{search-ended}
 use Rattle.chronicle_map.proofs.Told.{stages-told, checks-told, lists-told, lookups-told, edits-told}
 
 -- ---- the numbers of the answers
@@ -54,20 +60,48 @@ list-answers img n (Ready z c) w = by-nth (pick (live z img) n)
 
 no-record : (l : Located) → numberOf (lookupNumbers l) ≢ 0 → (recordAt l ≡ 0) × (recordLength l ≡ 0)
 unfolding recordAt recordLength
-no-record (looked.Found at n) ne = absurd (ne refl)
-no-record looked.Absent ne = (refl, refl)
+no-record (looked.Found p) ne = absurd (ne refl)
+no-record (looked.Absent e) ne = (refl, refl)
 no-record (looked.Refused s) ne = (refl, refl)
 
-module _ (img key : List ℕ) where
-  lookup-answers : (x : Examined) → Most 8 x → Answers (0 ∷ span 1 8) (lookupNumbers (lookedUp img key x))
-  unfolding lookedUp fromFind
-  lookup-answers (Refused s) w = other-answers 1 8 _ (stageNumber s) (omega (arith, stage-least s)) (omega arith) refl
-  lookup-answers (Ready z c) w = by-find (find z img key)
-    where
-      by-find : (o : Option Live) → Answers (0 ∷ span 1 8) (lookupNumbers (fromFind o))
-      by-find none = other-answers 1 8 _ 1 (omega arith) (omega arith) refl
-      by-find (some e) = zero-answers 1 8 _
+module _ (block img key : List ℕ) where
+  absent-ended : (z : Shape) (c : Counts) → asked block img (aKey key) ≡ Ready z c
+      → Ended (shape block img) img key (searchEnd z img key .tier) (searchEnd z img key .slot)
+  absent-ended z c e =
+      let ready : examine block img ≡ Ready z c = key-ready block img key z c refl e .ready in
+      let fits : Fitting block img z = ready-fitting block img z c ready in
+      subst (λ (x : Shape). Ended x img key (searchEnd z img key .tier) (searchEnd z img key .slot)) (fits .shape)
+      (search-ended z img (ready-framed block img z c ready) (fits .image) key)
 
+  lookup-answers : (x : Examined) → Most 8 x → asked block img (aKey key) ≡ x
+      → LookupAnswers block img key (0 ∷ span 1 8) (lookupNumbers (lookedUp img key x))
+  unfolding lookedUp fromFind
+  lookup-answers (Refused s) w e =
+      record {
+        allowed = List·Memᴰ·tail (in-span 1 8 (stageNumber s) (omega (arith, stage-least s)) (omega arith));
+        noRecord = λ _. refl;
+        noEnd = λ _ _. refl;
+        ended = λ one. absurd (omega (arith, stage-least s));
+      }
+  lookup-answers (Ready z c) w e = by-find (find z img key)
+    where
+      by-find : (o : Option Live) → LookupAnswers block img key (0 ∷ span 1 8) (lookupNumbers (fromFind z img key o))
+      by-find none =
+          record {
+            allowed = List·Memᴰ·tail (in-span 1 8 1 (omega arith) (omega arith));
+            noRecord = λ _. refl;
+            noEnd = λ _ ne. absurd (ne refl);
+            ended = λ _. absent-ended z c e;
+          }
+      by-find (some x) =
+          record {
+            allowed = List·Memᴰ·head refl;
+            noRecord = λ ne. absurd (ne refl);
+            noEnd = λ ne _. absurd (ne refl);
+            ended = λ one. absurd (omega arith);
+          }
+
+module _ (img key : List ℕ) where
   -- ---- an edit: its number, and the image where that is not 0
 
   removal-answers : (x : Examined) → Most 8 x → Answers (0 ∷ span 1 8) (answerNumber (removing img key x .answer) ∷ [])
@@ -114,7 +148,7 @@ unfolding lookedUp fromFind
 looked-not-8 img key (Refused s) n = n
 looked-not-8 img key (Ready z c) n = by-find (find z img key)
   where
-    by-find : (o : Option Live) → numberOf (lookupNumbers (fromFind o)) ≢ 8
+    by-find : (o : Option Live) → numberOf (lookupNumbers (fromFind z img key o)) ≢ 8
     by-find none = omega arith
     by-find (some e) = omega arith
 
@@ -144,7 +178,7 @@ demand1 block img =
     record {
       checkAnswers = check-answers (examine block img) (examine-most block img);
       listAnswers = λ n. list-answers img n (examine block img) (examine-most block img);
-      lookupAnswers = λ key. lookup-answers img key (asked block img (aKey key)) (asked-most block img (aKey key));
+      lookupAnswers = λ key. lookup-answers block img key (asked block img (aKey key)) (asked-most block img (aKey key)) refl;
       removalAnswers = λ key. removal-answers img key (asked block img (aKey key)) (asked-most block img (aKey key));
       storeAnswers = λ key value. store-answers img key value (asked block img (anEntry key value)) (asked-most block img (anEntry key value));
       noRecord = λ key. no-record (lookup block img key);
@@ -156,3 +190,11 @@ demand1 block img =
       lookupsTold = lookups-told;
       editsTold = edits-told;
     }
+
+-- ---- where the search for an absent key ended
+
+pub absent-ends : (block img key : List ℕ) (e : SearchEnd) → lookup block img key ≡ looked.Absent e
+    → Ended (shape block img) img key (e .tier) (e .slot)
+absent-ends block img key e q =
+    subst (λ (l : Located). Ended (shape block img) img key (getD (lookupNumbers l) 3 0) (getD (lookupNumbers l) 4 0)) q
+    (demand1 block img .lookupAnswers key .ended (ap (λ (l : Located). numberOf (lookupNumbers l)) q))

@@ -44,7 +44,8 @@ module _ (block img : List ℕ) (h : Holds block img) (m : Map) (w : Weigh (mapO
   saysOf x key = record { number = numberOf (lookupNumbers (lookedUp img key x)); bytes = recordBytes img (lookedUp img key x) }
 
   found-said : (key : List ℕ) (o : Option Live) → find z img key ≡ o
-      → record { number = numberOf (lookupNumbers (fromFind o)); bytes = recordBytes img (fromFind o) } ≡ mapLookup m (mapGet m key) .said
+      → record { number = numberOf (lookupNumbers (fromFind z img key o)); bytes = recordBytes img (fromFind z img key o) }
+      ≡ mapLookup m (mapGet m key) .said
   unfolding fromFind recordBytes recordAt recordLength mapLookup
   found-said key none f = rw (map-none z img (h .sound) m w key f)
   found-said key (some e) f = rw (map-found z img (h .sound) m w key e f)

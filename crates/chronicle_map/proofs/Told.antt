@@ -2,7 +2,7 @@
 use Prim.Native.Nat.{ℕ}
 use mathlib.Core.List.{List, [], _∷_, _++_, map}
 use mathlib.Core.Path.{_≡_, refl, ap, sym, _∙_}
-use mathlib.Core.Logic.{_≢_}
+use mathlib.Core.Logic.{_≢_, _⊎_, inl, inr}
 use lib.ListN.{getD}
 use Rattle.image.specs.declared.Stage.{Stage}
 use Rattle.image.specs.declared.Stage.the-variants.{Block, Field, Frame, Chains, Entries, Chunks, Key, Value}
@@ -61,14 +61,13 @@ lists-told = tells-by _ (numbered listed.Refused listed.Past listed.Past) back
     back listed.Past ne = refl
     back (listed.Refused s) ne = stage-numbered listed.Refused _ _ s
 
-pub lookups-told : Tells (λ (l : Located). numberOf (lookupNumbers l))
-unfolding stages
-lookups-told = tells-by _ (numbered looked.Refused looked.Absent looked.Absent) back
-  where
-    back : (l : Located) → numberOf (lookupNumbers l) ≢ 0 → numbered looked.Refused looked.Absent looked.Absent (numberOf (lookupNumbers l)) ≡ l
-    back (looked.Found at n) ne = absurd (ne refl)
-    back looked.Absent ne = refl
-    back (looked.Refused s) ne = stage-numbered looked.Refused _ _ s
+pub lookups-told : (a b : Located) → numberOf (lookupNumbers a) ≢ 0 → numberOf (lookupNumbers a) ≡ numberOf (lookupNumbers b)
+    → (a ≡ b) ⊎ (numberOf (lookupNumbers a) ≡ 1)
+lookups-told (looked.Found p) b ne e = absurd (ne refl)
+lookups-told (looked.Absent x) b ne e = inr refl
+lookups-told (looked.Refused s) (looked.Found p) ne e = absurd (ne e)
+lookups-told (looked.Refused s) (looked.Absent x) ne e = inr e
+lookups-told (looked.Refused s) (looked.Refused r) ne e = inl (ap looked.Refused (stages-told s r ne e))
 
 pub edits-told : Tells answerNumber
 unfolding stages

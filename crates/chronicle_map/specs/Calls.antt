@@ -7,12 +7,17 @@ use mathlib.Core.Option.{Option, none, some}
 use lib.ListN.{getD}
 use denote.Ref.{RefT, now}
 use Rattle.words.specs.Bytes.{cut}
+use Rattle.chains.specs.Chains.{lastTier}
 use Rattle.entries.specs.declared.Live.{Live}
+use Rattle.entries.specs.Keys.{segmentOf}
 use Rattle.layout.specs.declared.Shape.{Shape}
+use Rattle.search.specs.Search.{firstEmpty}
 use Rattle.image.specs.declared.Examined.{Examined}
 use Rattle.image.specs.declared.Examined.the-variants.{Ready, Refused}
 use Rattle.image.specs.Check.{stageNumber}
 use Rattle.edit.specs.Edits.{find, removeImage, noRoom, storeImage}
+use Rattle.chronicle_map.specs.declared.RecordPlace.{RecordPlace}
+use Rattle.chronicle_map.specs.declared.SearchEnd.{SearchEnd}
 use Rattle.chronicle_map.specs.declared.Located.{Located}
 use Rattle.chronicle_map.specs.declared.Located.the-variants as looked
 use Rattle.chronicle_map.specs.declared.Answer.{Answer}
@@ -23,34 +28,45 @@ use Rattle.chronicle_map.specs.Asked.{aKey, anEntry, asked}
 abbrev pub numberOf : List ℕ → ℕ
 numberOf ns = getD ns 0 0
 
--- ---- lookup: the record of the live entry with this whole key
+-- ---- lookup: the record of the live entry with this whole key; where there is none, where the search for the key ends
 
-unfoldable pub fromFind : Option Live → Located
-fromFind none = looked.Absent
-fromFind (some e) = looked.Found (e .entry .valueAt) (e .entry .valueLength)
+-- where the record of an entry stands
+abbrev pub placeOf : Live → RecordPlace
+placeOf e = record { offset = e .entry .valueAt; length = e .entry .valueLength; tier = e .tier; slot = e .slot }
+
+-- the search goes through the whole chain, and ends in its last tier at the first empty slot from the key's start slot on
+abbrev pub endIn : Shape → List ℕ → List ℕ → ℕ → SearchEnd
+endIn z img key t = record { tier = t; slot = firstEmpty z img key t }
+
+abbrev pub searchEnd : Shape → List ℕ → List ℕ → SearchEnd
+searchEnd z img key = endIn z img key (lastTier z img (segmentOf (z .settings) key))
+
+unfoldable pub fromFind : Shape → List ℕ → List ℕ → Option Live → Located
+fromFind z img key none = looked.Absent (searchEnd z img key)
+fromFind z img key (some e) = looked.Found (placeOf e)
 
 unfoldable pub lookedUp : List ℕ → List ℕ → Examined → Located
 lookedUp img key (Refused s) = looked.Refused s
-lookedUp img key (Ready z c) = fromFind (find z img key)
+lookedUp img key (Ready z c) = fromFind z img key (find z img key)
 
 unfoldable pub lookup : List ℕ → List ℕ → List ℕ → Located
 lookup block img key = lookedUp img key (asked block img (aKey key))
 
--- the paper's number, the record's offset and its length
+-- document 01's number, then offset, length, tier and slot
 abbrev pub lookupNumbers : Located → List ℕ
-lookupNumbers (looked.Found at n) = 0 ∷ at ∷ n ∷ []
-lookupNumbers looked.Absent = 1 ∷ 0 ∷ 0 ∷ []
-lookupNumbers (looked.Refused s) = stageNumber s ∷ 0 ∷ 0 ∷ []
+lookupNumbers (looked.Found p) = 0 ∷ p .offset ∷ p .length ∷ p .tier ∷ p .slot ∷ []
+lookupNumbers (looked.Absent e) = 1 ∷ 0 ∷ 0 ∷ e .tier ∷ e .slot ∷ []
+lookupNumbers (looked.Refused s) = stageNumber s ∷ 0 ∷ 0 ∷ 0 ∷ 0 ∷ []
 
 -- the second call's part of the image: where it starts, and its bytes
 unfoldable pub recordAt : Located → ℕ
-recordAt (looked.Found at n) = at
-recordAt looked.Absent = 0
+recordAt (looked.Found p) = p .offset
+recordAt (looked.Absent e) = 0
 recordAt (looked.Refused s) = 0
 
 unfoldable pub recordLength : Located → ℕ
-recordLength (looked.Found at n) = n
-recordLength looked.Absent = 0
+recordLength (looked.Found p) = p .length
+recordLength (looked.Absent e) = 0
 recordLength (looked.Refused s) = 0
 
 unfoldable pub recordBytes : List ℕ → Located → List ℕ

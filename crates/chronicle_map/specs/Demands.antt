@@ -6,19 +6,22 @@ use mathlib.Core.Logic.{_≢_, _⊎_}
 use mathlib.Core.Bool.{Bool, _&&_}
 use mathlib.Core.Option.{Option, none, some}
 use lib.Dec.{eqb}
-use lib.ListN.{length, drop, replicate}
+use lib.ListN.{length, getD, take, drop, replicate}
 use Rattle.lists.specs.Lists.{howMany, total}
+use Rattle.lists.specs.Quantify.{Below}
 use Rattle.words.specs.Bytes.{Bytes}
+use Rattle.settings.specs.declared.Settings.{Settings}
 use Rattle.settings.specs.Block.{BlockFits, settingsOf}
 use Rattle.layout.specs.declared.Shape.{Shape}
 use Rattle.layout.specs.Tiers.{IsExtra}
 use Rattle.layout.specs.Places.{mark}
 use Rattle.layout.specs.Frame.{shapeOf}
-use Rattle.chains.specs.Chains.{chained, chainedExtra, freeChain}
+use Rattle.chains.specs.Chains.{chain, lastTier, chained, chainedExtra, freeChain}
+use Rattle.probe.specs.Ring.{dist}
 use Rattle.entries.specs.declared.Live.{Live}
-use Rattle.entries.specs.Keys.{KeyFits}
+use Rattle.entries.specs.Keys.{KeyFits, segmentOf, lookupKey, start}
 use Rattle.entries.specs.Stored.{keyOf, chunksFor}
-use Rattle.entries.specs.Live.{live}
+use Rattle.entries.specs.Live.{slotAt, live}
 use Rattle.chunks.specs.Chunks.{covers}
 use Rattle.entries.specs.Pairs.{Pair}
 use Rattle.sound.specs.Sound.{ImageFits}
@@ -32,7 +35,7 @@ use Rattle.image.specs.Check.{stageNumber, check, outcomeNumbers, verdictNumber
 use Rattle.image.specs.List.{entry, listedNumbers}
 use Rattle.chronicle_map.specs.declared.Located.{Located}
 use Rattle.chronicle_map.specs.declared.Located.the-variants as looked
-use Rattle.chronicle_map.specs.Calls.{numberOf, lookup, lookupNumbers, recordAt, recordLength, answerNumber, remove, store}
+use Rattle.chronicle_map.specs.Calls.{numberOf, placeOf, searchEnd, lookup, lookupNumbers, recordAt, recordLength, answerNumber, remove, store}
 use Rattle.chronicle_map.specs.History.{Call, looksUp, stores, removes, Map, hasKey, mapOf, mapGet, run, answers, told, mapAnswers, mapAfter}
 
 -- ---- demand 1, for every block, image, key and record
@@ -46,10 +49,36 @@ pub record Answers (may ns : List ℕ) : Type 0 where
 abbrev pub Tells : {A : Type 0} → (A → ℕ) → Type 0
 Tells {A} number = (a b : A) → number a ≢ 0 → number a ≡ number b → a ≡ b
 
+abbrev pub shape : List ℕ → List ℕ → Shape
+shape block img = shapeOf (settingsOf block) img
+
+-- the search for an absent key ended at slot j of tier t: the last tier of its segment's chain, the first empty slot from its start slot on
+module _ (z : Shape) (img key : List ℕ) where
+  open Shape z using (settings)
+  open Settings settings using (slots)
+
+  abbrev pub fromStart : ℕ → ℕ
+  fromStart k = dist slots (start settings (lookupKey settings key)) k
+
+  pub record Ended (t j : ℕ) : Type 0 where
+    pub inChain : List·Memᴰ t (chain z img (segmentOf settings key))
+    pub last : t ≡ lastTier z img (segmentOf settings key)
+    pub slotIn : j < slots
+    pub empty : slotAt z img t j ≡ 0
+    pub fullBefore : Below slots (λ k. fromStart k < fromStart j → slotAt z img t k ≢ 0)
+
+-- the same of a lookup's number, offset, length, tier and slot, with one exception: with 1, tier and slot say where the search ended
+pub record LookupAnswers (block img key may ns : List ℕ) : Type 0 where
+  pub allowed : List·Memᴰ (numberOf ns) may
+  pub noRecord : numberOf ns ≢ 0 → take 2 (drop 1 ns) ≡ 0 ∷ 0 ∷ []
+  pub noEnd : numberOf ns ≢ 0 → numberOf ns ≢ 1 → drop 3 ns ≡ 0 ∷ 0 ∷ []
+  pub ended : numberOf ns ≡ 1 → Ended (shape block img) img key (getD ns 3 0) (getD ns 4 0)
+
 pub record Demand1 (block img : List ℕ) : Type 0 where
   pub checkAnswers : Answers (0 ∷ 2 ∷ 3 ∷ 4 ∷ 5 ∷ 6 ∷ 7 ∷ []) (verdictNumbers (check block img))
   pub listAnswers : (n : ℕ) → Answers (0 ∷ 1 ∷ 2 ∷ 3 ∷ 4 ∷ 5 ∷ 6 ∷ 7 ∷ []) (listedNumbers (entry block img n))
-  pub lookupAnswers : (key : List ℕ) → Answers (0 ∷ 1 ∷ 2 ∷ 3 ∷ 4 ∷ 5 ∷ 6 ∷ 7 ∷ 8 ∷ []) (lookupNumbers (lookup block img key))
+  pub lookupAnswers : (key : List ℕ)
+      → LookupAnswers block img key (0 ∷ 1 ∷ 2 ∷ 3 ∷ 4 ∷ 5 ∷ 6 ∷ 7 ∷ 8 ∷ []) (lookupNumbers (lookup block img key))
   pub removalAnswers : (key : List ℕ)
       → Answers (0 ∷ 1 ∷ 2 ∷ 3 ∷ 4 ∷ 5 ∷ 6 ∷ 7 ∷ 8 ∷ []) (answerNumber (remove block img key .answer) ∷ [])
   pub storeAnswers : (key value : List ℕ)
@@ -60,11 +89,12 @@ pub record Demand1 (block img : List ℕ) : Type 0 where
   -- an edit answered otherwise than 0 leaves every byte as it was
   pub removalRefused : (key : List ℕ) → answerNumber (remove block img key .answer) ≢ 0 → remove block img key .image ≡ img
   pub storeRefused : (key value : List ℕ) → answerNumber (store block img key value .answer) ≢ 0 → store block img key value .image ≡ img
-  -- each refusal has a number of its own
+  -- each refusal has a number of its own; so has a lookup's absence, wherever the search ended
   pub stagesTold : Tells stageNumber
   pub checksTold : Tells (λ (v : Outcome). numberOf (outcomeNumbers v))
   pub listsTold : Tells (λ (l : Listed). numberOf (listedNumbers l))
-  pub lookupsTold : Tells (λ (l : Located). numberOf (lookupNumbers l))
+  pub lookupsTold : (a b : Located) → numberOf (lookupNumbers a) ≢ 0 → numberOf (lookupNumbers a) ≡ numberOf (lookupNumbers b)
+      → (a ≡ b) ⊎ (numberOf (lookupNumbers a) ≡ 1)
   pub editsTold : Tells answerNumber
 
 -- ---- which images are accepted
@@ -83,9 +113,6 @@ abbrev pub ByteCalls : List Call → Type 0
 ByteCalls [] = Unit {0}
 ByteCalls (c ∷ cs) = ByteCall c × ByteCalls cs
 
-abbrev pub shape : List ℕ → List ℕ → Shape
-shape block img = shapeOf (settingsOf block) img
-
 -- the block fits, and the image fits the layout with the rules of the scope, stage by stage
 pub record Fits (block img : List ℕ) : Type 0 where
   pub blockFits : BlockFits block
@@ -96,8 +123,9 @@ pub record Fits (block img : List ℕ) : Type 0 where
 -- a lookup gives the record stored under the whole key, or says there is none
 pub record LooksUp (block img key : List ℕ) : Type 0 where
   pub stored : (e : Live) → List·Memᴰ e (live (shape block img) img) → keyOf img (e .entry) ≡ key
-      → lookup block img key ≡ looked.Found (e .entry .valueAt) (e .entry .valueLength)
-  pub none : KeyFits (settingsOf block) key → mapGet (mapOf block img) key ≡ none → lookup block img key ≡ looked.Absent
+      → lookup block img key ≡ looked.Found (placeOf e)
+  pub none : KeyFits (settingsOf block) key → mapGet (mapOf block img) key ≡ none
+      → lookup block img key ≡ looked.Absent (searchEnd (shape block img) img key)
 
 -- an image that reads as the same map with only this key altered
 pub record Alters (block img img′ key : List ℕ) (p : Option Pair) : Type 0 where

@@ -78,7 +78,7 @@ shorter = stores (pair 1 2) (1 ∷ 2 ∷ 3 ∷ 4 ∷ 5 ∷ []) ∷ stores (pair 
 pub data Asks : Type 0 where
   checks : Asks
   lists : ℕ → Asks
-  -- a lookup's three numbers and the record's bytes
+  -- a lookup's five numbers and the record's bytes
   finds : List ℕ → Asks
   -- n bytes at an offset
   bytes : ℕ → ℕ → Asks
@@ -105,7 +105,7 @@ unfoldable pub cases : List Case
 cases =
     -- p1
     case imageX [] checks (0 ∷ 0 ∷ 0 ∷ 1 ∷ 1 ∷ [])
-    ∷ case imageX [] (finds (pair 1 2)) (1 ∷ 0 ∷ 0 ∷ [])
+    ∷ case imageX [] (finds (pair 1 2)) (1 ∷ 0 ∷ 0 ∷ 1 ∷ 1 ∷ [])
     -- p2: the entry, slot 1, the free list, entry count, lowest free chunk
     ∷ case imageX after2 answered (0 ∷ [])
     ∷ case imageX after2 (bytes 232 8) (2 ∷ 1 ∷ 2 ∷ 4 ∷ 16 ∷ 0 ∷ 0 ∷ 0 ∷ [])
@@ -115,8 +115,8 @@ cases =
     -- p3: slot 2, the free list, each key's own record
     ∷ case imageX after3 (bytes 104 4) (3 ∷ 0 ∷ 0 ∷ 0 ∷ [])
     ∷ case imageX after3 (bytes 224 1) (3 ∷ [])
-    ∷ case imageX after3 (finds (pair 1 2)) (0 ∷ 236 ∷ 4 ∷ 16 ∷ 0 ∷ 0 ∷ 0 ∷ [])
-    ∷ case imageX after3 (finds (pair 2 1)) (0 ∷ 244 ∷ 4 ∷ 240 ∷ 255 ∷ 255 ∷ 255 ∷ [])
+    ∷ case imageX after3 (finds (pair 1 2)) (0 ∷ 236 ∷ 4 ∷ 1 ∷ 1 ∷ 16 ∷ 0 ∷ 0 ∷ 0 ∷ [])
+    ∷ case imageX after3 (finds (pair 2 1)) (0 ∷ 244 ∷ 4 ∷ 1 ∷ 2 ∷ 240 ∷ 255 ∷ 255 ∷ 255 ∷ [])
     -- the lister's lines after p3
     ∷ case imageX after3 checks (0 ∷ 2 ∷ 2 ∷ 1 ∷ 1 ∷ [])
     ∷ case imageX after3 (lists 0) (0 ∷ 0 ∷ 1 ∷ 1 ∷ 0 ∷ 1 ∷ 2 ∷ 4 ∷ [])
@@ -132,30 +132,30 @@ cases =
     ∷ case imageX after5 (bytes 80 8) (2 ∷ 0 ∷ 0 ∷ 0 ∷ 0 ∷ 0 ∷ 0 ∷ 0 ∷ [])
     ∷ case imageX after5 (bytes 368 8) (1 ∷ 0 ∷ 0 ∷ 0 ∷ 0 ∷ 0 ∷ 0 ∷ 0 ∷ [])
     ∷ case imageX after5 (bytes 388 4) (1 ∷ 0 ∷ 0 ∷ 0 ∷ [])
-    ∷ case imageX after5 (finds (pair 1 3)) (0 ∷ 436 ∷ 4 ∷ four 13)
-    ∷ case imageX after5 (finds (pair 4 1)) (1 ∷ 0 ∷ 0 ∷ [])
+    ∷ case imageX after5 (finds (pair 1 3)) (0 ∷ 436 ∷ 4 ∷ 2 ∷ 1 ∷ four 13)
+    ∷ case imageX after5 (finds (pair 4 1)) (1 ∷ 0 ∷ 0 ∷ 2 ∷ 2 ∷ [])
     -- p6: the next two go to tier 2, the third finds no room; each key's own record
     ∷ case imageX after6 answered (0 ∷ 0 ∷ 0 ∷ 0 ∷ 0 ∷ 0 ∷ 10 ∷ [])
     ∷ case imageX after6 checks (0 ∷ 6 ∷ 6 ∷ 2 ∷ 0 ∷ [])
     ∷ case imageX after6 (lists 4) (0 ∷ 0 ∷ 2 ∷ 2 ∷ 1 ∷ 1 ∷ 2 ∷ 4 ∷ [])
     ∷ case imageX after6 (lists 5) (0 ∷ 0 ∷ 2 ∷ 3 ∷ 2 ∷ 1 ∷ 2 ∷ 4 ∷ [])
-    ∷ case imageX after6 (finds (pair 1 3)) (0 ∷ 436 ∷ 4 ∷ four 13)
-    ∷ case imageX after6 (finds (pair 4 1)) (0 ∷ 444 ∷ 4 ∷ four 41)
-    ∷ case imageX after6 (finds (pair 5 1)) (0 ∷ 452 ∷ 4 ∷ four 51)
-    ∷ case imageX after6 (finds (pair 6 1)) (1 ∷ 0 ∷ 0 ∷ [])
+    ∷ case imageX after6 (finds (pair 1 3)) (0 ∷ 436 ∷ 4 ∷ 2 ∷ 1 ∷ four 13)
+    ∷ case imageX after6 (finds (pair 4 1)) (0 ∷ 444 ∷ 4 ∷ 2 ∷ 2 ∷ four 41)
+    ∷ case imageX after6 (finds (pair 5 1)) (0 ∷ 452 ∷ 4 ∷ 2 ∷ 3 ∷ four 51)
+    ∷ case imageX after6 (finds (pair 6 1)) (1 ∷ 0 ∷ 0 ∷ 2 ∷ 0 ∷ [])
     -- p7: slots 1 to 3, the free list, the lowest free chunk
     ∷ case imageX after7 answered (0 ∷ 0 ∷ 0 ∷ 0 ∷ [])
     ∷ case imageX after7 (bytes 100 12) (3 ∷ 0 ∷ 0 ∷ 0 ∷ 5 ∷ 0 ∷ 0 ∷ 0 ∷ 0 ∷ 0 ∷ 0 ∷ 0 ∷ [])
     ∷ case imageX after7 (bytes 224 1) (6 ∷ [])
     ∷ case imageX after7 (bytes 76 4) (0 ∷ 0 ∷ 0 ∷ 0 ∷ [])
-    ∷ case imageX after7 (finds (pair 1 2)) (1 ∷ 0 ∷ 0 ∷ [])
-    ∷ case imageX after7 (finds (pair 3 1)) (0 ∷ 252 ∷ 4 ∷ four 31)
+    ∷ case imageX after7 (finds (pair 1 2)) (1 ∷ 0 ∷ 0 ∷ 1 ∷ 3 ∷ [])
+    ∷ case imageX after7 (finds (pair 3 1)) (0 ∷ 252 ∷ 4 ∷ 1 ∷ 2 ∷ four 31)
     -- p8: chunks 3 and 4, slot 3, the free list, the new record
     ∷ case imageX after8 (lists 2) (0 ∷ 0 ∷ 1 ∷ 3 ∷ 3 ∷ 2 ∷ 2 ∷ 5 ∷ [])
     ∷ case imageX after8 (bytes 108 4) (7 ∷ 0 ∷ 0 ∷ 0 ∷ [])
     ∷ case imageX after8 (bytes 224 1) (30 ∷ [])
-    ∷ case imageX after8 (finds (pair 1 2)) (0 ∷ 260 ∷ 5 ∷ 1 ∷ 2 ∷ 3 ∷ 4 ∷ 5 ∷ [])
-    ∷ case imageX after8 (finds (pair 2 1)) (0 ∷ 244 ∷ 4 ∷ 240 ∷ 255 ∷ 255 ∷ 255 ∷ [])
+    ∷ case imageX after8 (finds (pair 1 2)) (0 ∷ 260 ∷ 5 ∷ 1 ∷ 3 ∷ 1 ∷ 2 ∷ 3 ∷ 4 ∷ 5 ∷ [])
+    ∷ case imageX after8 (finds (pair 2 1)) (0 ∷ 244 ∷ 4 ∷ 1 ∷ 1 ∷ 240 ∷ 255 ∷ 255 ∷ 255 ∷ [])
     -- p9: 28 bytes take 4 chunks, 29 are refused
     ∷ case imageX (stores (pair 1 2) (replicate 28 9) ∷ []) (lists 0) (0 ∷ 0 ∷ 1 ∷ 1 ∷ 0 ∷ 4 ∷ 2 ∷ 28 ∷ [])
     ∷ case imageX (stores (pair 1 2) (replicate 29 9) ∷ []) answered (9 ∷ [])
@@ -188,4 +188,13 @@ cases =
     -- the old entry's chunks are below the field, and the new one goes there
     ∷ case imageX (after4 ++ (stores (pair 1 2) (four 12) ∷ [])) (lists 2) (0 ∷ 0 ∷ 1 ∷ 3 ∷ 0 ∷ 1 ∷ 2 ∷ 4 ∷ [])
     ∷ case imageX shorter (lists 0) (0 ∷ 0 ∷ 1 ∷ 1 ∷ 0 ∷ 1 ∷ 2 ∷ 4 ∷ [])
+    -- A6: tier and slot of an entry; of an absent key the last tier and the empty slot that ended the search, which may wrap
+    ∷ case imageX after2 (finds (pair 1 2)) (0 ∷ 236 ∷ 4 ∷ 1 ∷ 1 ∷ 16 ∷ 0 ∷ 0 ∷ 0 ∷ [])
+    ∷ case imageX after2 (finds (pair 2 1)) (1 ∷ 0 ∷ 0 ∷ 1 ∷ 2 ∷ [])
+    ∷ case imageX after4 (finds (pair 3 1)) (0 ∷ 252 ∷ 4 ∷ 1 ∷ 3 ∷ four 31)
+    ∷ case imageX after4 (finds (pair 1 3)) (1 ∷ 0 ∷ 0 ∷ 1 ∷ 0 ∷ [])
+    -- a refusal has zeros there
+    ∷ case imageX after5 (finds []) (8 ∷ 0 ∷ 0 ∷ 0 ∷ 0 ∷ [])
+    ∷ case (putLe (run blockX imageX after5) 224 1 0) [] (finds (pair 1 3)) (7 ∷ 0 ∷ 0 ∷ 0 ∷ 0 ∷ [])
+    ∷ case (putLe (run blockX imageX after5) 224 1 0) [] (finds (pair 4 1)) (7 ∷ 0 ∷ 0 ∷ 0 ∷ 0 ∷ [])
     ∷ []

@@ -19,10 +19,24 @@ ghost use Rattle.image.specs.List.{entry as List·entry};
 ghost use Rattle.chronicle_map.specs.Asked.{aKey, anEntry, asked};
 ghost use Rattle.chronicle_map.specs.Calls.{fromFind, lookup as Calls·lookup, RecordOf, Edited, removeFound, remove as Calls·remove, storeUnless, store as Calls·store};
 
-// A lookup's answer: where the record stands and how long it is; none; a refusal.
+// Where a record stands: its offset in the image, its length, and the tier and slot of its entry.
+pub struct RecordPlace {
+    pub offset: usize,
+    pub length: usize,
+    pub tier: usize,
+    pub slot: usize,
+}
+
+// Where the search for an absent key ended: the last tier of the key's chain, and the empty slot there.
+pub struct SearchEnd {
+    pub tier: usize,
+    pub slot: usize,
+}
+
+// A lookup's answer: where the record stands; none, and where the search ended; a refusal.
 pub enum Located {
-    Found(usize, usize),
-    Absent,
+    Found(RecordPlace),
+    Absent(SearchEnd),
     Refused(Stage),
 }
 
@@ -76,19 +90,26 @@ fn asked_entry(block: &[u8], img: &[u8], key: &[u8], value: &[u8]) -> Examined
     }
 }
 
-// Where the record of the whole key stands in an accepted image.
+// Where the record of the whole key stands in an accepted image, or where the search for it ended.
 fn lookup_accepted(z: Shape, img: &[u8], key: &[u8]) -> Located
     requires { ⌜ SoundImage z (now img) ⌝ }
-    ensures { λ r. ⌜ r ≡ fromFind (find z (now (img .entry)) (now (key .entry))) ⌝ }
+    ensures { λ r. ⌜ r ≡ fromFind z (now (img .entry)) (now (key .entry)) (find z (now (img .entry)) (now (key .entry))) ⌝ }
 {
-    let Found::At(t, j) = search::search(z, img, key) else {
-        return Located::Absent;
-    };
-    let e = entries::read::entry_at(z, img, t, j);
-    Located::Found(e.valueAt, e.valueLength)
+    match search::search(z, img, key) {
+        Found::Absent(t, j) => Located::Absent(SearchEnd { tier: t, slot: j }),
+        Found::At(t, j) => {
+            let e = entries::read::entry_at(z, img, t, j);
+            Located::Found(RecordPlace {
+                offset: e.valueAt,
+                length: e.valueLength,
+                tier: t,
+                slot: j,
+            })
+        }
+    }
 }
 
-// Where the record under a key stands, and how long it is.
+// Where the record under a key stands, or where the search for the key ended.
 pub fn lookup(block: &[u8], img: &[u8], key: &[u8]) -> Located
     ensures { λ r. ⌜ r ≡ Calls·lookup (now (block .entry)) (now (img .entry)) (now (key .entry)) ⌝ }
 {
@@ -103,8 +124,12 @@ pub fn record<'a>(block: &[u8], img: &'a [u8], key: &[u8]) -> &'a [u8]
     ensures { λ r. ⌜ RecordOf (img .entry) (Calls·lookup (now (block .entry)) (now (img .entry)) (now (key .entry))) r ⌝ }
 {
     match lookup(block, img, key) {
-        Located::Found(at, n) => &img[at..at + n],
-        Located::Absent => &img[0..0],
+        Located::Found(p) => {
+            let from = p.offset;
+            let to = p.offset + p.length;
+            &img[from..to]
+        }
+        Located::Absent(_) => &img[0..0],
         Located::Refused(_) => &img[0..0],
     }
 }

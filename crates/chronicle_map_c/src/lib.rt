@@ -60,27 +60,33 @@ pub extern "C" fn chronicle_map_check(block: &[u8], img: &[u8], counts: &mut [u6
     }
 }
 
-// A lookup. The array: where the record starts in the image, and its length.
+// A lookup. The array: where the record starts in the image, its length, and its entry's tier and slot; of
+// an absent key the tier and the slot at which the search ended.
 #[no_mangle]
 pub extern "C" fn chronicle_map_lookup(
     block: &[u8],
     img: &[u8],
     key: &[u8],
-    place: &mut [u64; 2],
+    place: &mut [u64; 4],
 ) -> u32
     ensures { λ r. ⌜ r ∷ now (place .exit) ≡ lookupAnswer (now (block .entry)) (now (img .entry)) (now (key .entry)) ⌝ }
 {
     match chronicle_map::lookup(block, img, key) {
-        Located::Found(at, n) => {
-            *place = [at as u64, n as u64];
+        Located::Found(p) => {
+            *place = [
+                p.offset as u64,
+                p.length as u64,
+                p.tier as u64,
+                p.slot as u64,
+            ];
             0
         }
-        Located::Absent => {
-            *place = [0; 2];
+        Located::Absent(e) => {
+            *place = [0, 0, e.tier as u64, e.slot as u64];
             1
         }
         Located::Refused(stage) => {
-            *place = [0; 2];
+            *place = [0; 4];
             stage_number(stage)
         }
     }

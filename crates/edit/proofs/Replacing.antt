@@ -15,14 +15,11 @@ use Rattle.layout.specs.Frame.{Framed}
 use Rattle.lists.specs.Quantify.{Below, Every}
 use Rattle.chains.specs.Chains.{chain}
 use Rattle.chains.proofs.Tiers.{chain-tiers}
-use Rattle.entries.specs.declared.Entry.{Entry}
 use Rattle.entries.specs.declared.Live.{Live}
 use Rattle.entries.specs.Keys.{KeyFits, segmentOf}
 use Rattle.entries.specs.Stored.{chunksFor, keyOf}
 use Rattle.entries.specs.Live.{chunkOf, entryAt, liveAt}
 use Rattle.entries.proofs.LiveLists.{IsLive, live-in}
-use Rattle.entries.proofs.Whole.{entry-small}
-use Rattle.entries.specs.Asking.{Lengths}
 use Rattle.search.specs.declared.Found.{Found}
 use Rattle.search.specs.declared.Found.the-variants.{At, Absent}
 use Rattle.search.specs.Search.{search, ChainTiers}
@@ -34,16 +31,12 @@ use Rattle.sound.proofs.Sound.{sound-image}
 use Rattle.sound.proofs.Marked.{entry-inside}
 use Rattle.removal.specs.Removal.{removeAt}
 use Rattle.placement.specs.declared.Old.{Old}
+use Rattle.placement.specs.OldEntry.{noOld, oldAt, oldFound}
 use Rattle.placement.specs.Placement.{placeAt}
 use Rattle.joining.specs.Joining.{join}
 use Rattle.edit.specs.Edits.{find, withoutEntry, without, removedEntry, removeImage, tierOf}
 use Rattle.edit.specs.Replaced.{oldOf, withoutOld, replacedOld, extendedOld, OldFits, isThere}
 use Rattle.edit.proofs.Finding.{find-live, search-found, search-none}
-
--- the lengths that were read are small
-pub entry-lengths : (z : Shape) (img : List ℕ) (t j : ℕ) (e : Entry) → e ≡ entryAt z img t j → Lengths (e .keyLength) (e .valueLength)
-unfolding entryAt
-entry-lengths z img t j e is = rw is (entry-small z img t (chunkOf z img t j))
 
 -- ---- removed, or there is none
 
@@ -175,25 +168,27 @@ module _ (z : Shape) (img : List ℕ) (sound : SoundImage z img) where
 
     -- ---- by the search
 
+    found-by : (r : Found) → search z img key ≡ r → oldFound z img r ≡ oldOf (find z img key)
+    unfolding oldFound oldOf liveAt
+    found-by (At t j) e = rw (search-found z img sound key t j e)
+    found-by (Absent t j) e = rw (search-none z img sound key t j e)
+
+    pub found-old : oldFound z img (search z img key) ≡ oldOf (find z img key)
+    found-old = found-by (search z img key) refl
+
     module _ (r : Found) (e : r ≡ search z img key) (t j : ℕ) where
-      pub old-absent : r ≡ Absent t j → record { tier = 0; slot = 0; chunk = 0; chunks = 0 } ≡ oldOf (find z img key)
-      unfolding oldOf
-      old-absent f = rw (search-none z img sound key t j (sym e ∙ f))
+      pub old-absent : r ≡ Absent t j → {old : Old} → old ≡ noOld → old ≡ oldOf (find z img key)
+      unfolding oldFound
+      old-absent f eo = eo ∙ found-by (Absent t j) (sym e ∙ f)
 
       module _ (f : r ≡ At t j) where
-        found : find z img key ≡ some (liveAt z img (segmentOf settings key) t j)
-        found = search-found z img sound key t j (sym e ∙ f)
-
         pub old-in : IsTier z t × (j < slots)
         unfolding liveAt
         old-in =
-            let l : IsLive z img (liveAt z img (segmentOf settings key) t j) = found-live (liveAt z img (segmentOf settings key) t j) found in
+            let l : IsLive z img (liveAt z img (segmentOf settings key) t j) =
+            found-live (liveAt z img (segmentOf settings key) t j) (search-found z img sound key t j (sym e ∙ f)) in
             (live-tier (liveAt z img (segmentOf settings key) t j) l, l .slotIn)
 
-        pub old-found : {c n : ℕ} {x : Entry} → x ≡ entryAt z img t j → c ≡ chunkOf z img t j
-            → n ≡ chunksFor settings (x .keyLength) (x .valueLength)
-            → record { tier = t; slot = j; chunk = c; chunks = n } ≡ oldOf (find z img key)
-        unfolding oldOf liveAt
-        old-found ex ec en =
-            let n′ = en ∙ ap (λ (y : Entry). chunksFor settings (y .keyLength) (y .valueLength)) ex in
-            rw found (λ i. record { tier = t; slot = j; chunk = ec i; chunks = n′ i })
+        pub old-found : {old : Old} → old ≡ oldAt z img t j → old ≡ oldOf (find z img key)
+        unfolding oldFound
+        old-found eo = eo ∙ found-by (At t j) (sym e ∙ f)

@@ -29,7 +29,7 @@ use Rattle.placement.specs.declared.Old.{Old}
 use Rattle.placement.specs.declared.Run.{Run}
 use Rattle.placement.specs.Runs.{firstRun, runFor, fullIn, fullBut, clearBut}
 use Rattle.placement.proofs.OldEntry.{clear-old, clear-else, clear-before, clear-after, full-old, full-else}
-use Rattle.placement.proofs.Running.{run-same}
+use Rattle.placement.proofs.Running.{run-same, run-others}
 use Rattle.edit.specs.Edits.{find, withoutEntry, without, runOf}
 use Rattle.edit.specs.Replaced.{oldOf}
 use Rattle.edit.proofs.Finding.{find-live}
@@ -93,10 +93,7 @@ module _ (z : Shape) (img : List ℕ) (sound : SoundImage z img) where
         → firstRun z (fullBut z img (oldOf o)) (clearBut z img (oldOf o)) (chain z img s) n
         ≡ runFor z (withoutEntry z img o) (chain z (withoutEntry z img o) s) n
     unfolding oldOf withoutEntry runFor
-    scan-by none f =
-        run-same z (fullBut z img (oldOf none)) (fullIn z img) (clearBut z img (oldOf none)) (clear z img) (chain z img s) n
-        (λ t mt. sym (full-else z img (oldOf none) t (λ (q : t ≡ 0). omega (arith, tiers-of t mt))))
-        (λ t mt i h. sym (clear-else z img (oldOf none) t i (λ (q : t ≡ 0). omega (arith, tiers-of t mt))))
+    scan-by none f = run-others z img (oldOf none) (chain z img s) n (λ t mt (q : t ≡ 0). omega (arith, tiers-of t mt))
     scan-by (some e) f =
         let m : List·Memᴰ e (live z img) = find-live z img key e f .0 in
         run-same z (fullBut z img (oldOf (some e))) (fullIn z (removeEntry z img e)) (clearBut z img (oldOf (some e)))
@@ -106,12 +103,12 @@ module _ (z : Shape) (img : List ℕ) (sound : SoundImage z img) where
         ∙ ap (λ (ts : List ℕ). firstRun z (fullIn z (removeEntry z img e)) (clear z (removeEntry z img e)) ts n)
         (sym (removal-chain z img (sound-but z img sound) e m s (segment-lt (sound .fits .valid) key)))
 
-  pub scan-is : (key value : List ℕ) (old : Old) (r : Run) (t n : ℕ) → old ≡ oldOf (find z img key) → t ≡ segmentOf settings key
-      → n ≡ chunksFor settings (length key) (length value) → r ≡ firstRun z (fullBut z img old) (clearBut z img old) (chain z img t) n
+  pub scan-is : (key value : List ℕ) {old : Old} {r : Run} {n : ℕ} → old ≡ oldOf (find z img key)
+      → n ≡ chunksFor settings (length key) (length value)
+      → r ≡ firstRun z (fullBut z img old) (clearBut z img old) (chain z img (segmentOf settings key)) n
       → r ≡ runOf z (without z img key) key value
   unfolding runOf without
-  scan-is key value old r t n eo et en e =
-      e ∙ ap (λ (x : Old). firstRun z (fullBut z img x) (clearBut z img x) (chain z img t) n) eo
-      ∙ ap (λ (x : ℕ). firstRun z (fullBut z img (oldOf (find z img key))) (clearBut z img (oldOf (find z img key))) (chain z img x) n) et
+  scan-is key value {n = n} eo en e =
+      e ∙ ap (λ (x : Old). firstRun z (fullBut z img x) (clearBut z img x) (chain z img (segmentOf settings key)) n) eo
       ∙ scan-by key n (find z img key) refl
       ∙ ap (λ (x : ℕ). runFor z (without z img key) (chain z (without z img key) (segmentOf settings key)) x) en

@@ -1,7 +1,7 @@
 -- What the code of a store knows at each step, by the scan's answer.
 use Prim.Native.Nat.{ℕ, _<_}
 use mathlib.Core.List.{List}
-use mathlib.Core.Path.{_≡_, refl, ap, ap₂, sym, _∙_}
+use mathlib.Core.Path.{_≡_, refl, ap₂, sym, _∙_}
 use mathlib.Core.Logic.{_≢_}
 use mathlib.Core.Bool.{true, false}
 use native.Mathlib.Omega.{arith}
@@ -12,70 +12,66 @@ use Rattle.settings.specs.declared.Settings.{Settings}
 use Rattle.layout.specs.declared.Shape.{Shape}
 use Rattle.layout.specs.Tiers.{IsTier}
 use Rattle.layout.specs.Places.{get, global, usedTiers}
-use Rattle.chains.specs.Chains.{chain, freeHead}
-use Rattle.xxh64.specs.Hash.{xxh64}
-use Rattle.entries.specs.Keys.{segmentOfHash, segmentOf}
+use Rattle.chains.specs.Chains.{freeHead}
+use Rattle.entries.specs.Keys.{segmentOf}
 use Rattle.entries.proofs.Sizes.{chunks-pos}
 use Rattle.entries.specs.Stored.{chunksFor}
 use Rattle.entries.proofs.Hashes.{segment-lt}
+use Rattle.search.specs.Search.{firstEmpty}
 use Rattle.sound.specs.Sound.{SoundWith, SoundImage, SoundBut}
 use Rattle.counters.specs.Recount.{settle, touched}
 use Rattle.placement.specs.declared.Old.{Old}
-use Rattle.placement.specs.declared.Run.{Run}
 use Rattle.placement.specs.declared.Run.the-variants.{At, Nowhere}
-use Rattle.placement.specs.Runs.{firstRun, fullBut, clearBut}
+use Rattle.placement.specs.declared.walk.EntryPlace.{EntryPlace}
+use Rattle.placement.specs.Asking.{KnownFor, CanWalk}
+use Rattle.placement.specs.Walking.{PlaceIs}
 use Rattle.placement.specs.Placement.{placeAt}
-use Rattle.placement.proofs.Before.{can-place}
+use Rattle.placement.proofs.Walking.{not-known}
+use Rattle.placement.proofs.Before.{Places, is-tier, can-place}
 use Rattle.joining.specs.Joining.{join}
 use Rattle.joining.proofs.Ends.{new-tier, used-small}
 use Rattle.edit.specs.Edits.{find, without, left, runOf, noRoom, placeIn, tierOf, storeImage}
 use Rattle.edit.specs.Replaced.{oldOf, withoutOld, replacedOld, extendedOld, Stores, Storable, Replaces, Extends}
-use Rattle.edit.proofs.Without.{without-sound, without-head}
-use Rattle.edit.proofs.Replacing.{sound-framed, sound-tiers, old-fits, withoutOld-is, old-tier}
+use Rattle.edit.proofs.Without.{without-sound, without-room, without-head}
+use Rattle.edit.proofs.Replacing.{sound-framed, sound-tiers, sound-lows, found-old, old-fits, withoutOld-is, old-tier}
 use Rattle.edit.proofs.Scanning.{scan-is}
 use Rattle.edit.proofs.Storing.{fits-at, fits-free}
 use Rattle.layout.specs.Frame.{mostTiers}
 
--- an entry takes a chunk at least
-pub some-chunks : {z : Shape} {img key value : List ℕ} → Storable z img key value → (n : ℕ)
-    → n ≡ chunksFor (z .settings) (length key) (length value)
-    → 0 < n
-some-chunks {z} {img} {key} {value} w n e =
-    rw e
-    (chunks-pos (z .settings) (length key) (length value) (omega (arith, w .keyFits .notLonger)) (omega (arith, w .valueFits .notLonger))
-    (w .sound .fits .valid))
+-- what the walk along the key's chain asks for
+pub walk-asks : {z : Shape} {img key value : List ℕ} {n : ℕ} → Storable z img key value → n ≡ chunksFor (z .settings) (length key) (length value)
+    → CanWalk z img key n
+walk-asks {z} {img} {key} {value} w e =
+    let hs : segmentOf (z .settings) key < z .settings .segments = segment-lt (w .sound .fits .valid) key in
+    record {
+      framed = sound-framed z img (w .sound);
+      tiersOf = sound-tiers z img (w .sound) (segmentOf (z .settings) key) hs;
+      lowMarks = sound-lows z img (w .sound) (segmentOf (z .settings) key) hs;
+      some =
+          rw e
+          (chunks-pos (z .settings) (length key) (length value) (omega (arith, w .keyFits .notLonger)) (omega (arith, w .valueFits .notLonger))
+          (w .sound .fits .valid));
+      oldEnds = old-fits z img (w .sound) key _ (found-old z img (w .sound) key) .rangeEnds;
+    }
 
 -- a sound image with a free tier uses fewer than the most
 used-few : {C : Type 0} (z : Shape) (img : List ℕ) → SoundWith C z img → (s : ℕ) → s < z .settings .segments → freeHead z img ≢ 0
     → get z img (global usedTiers) < mostTiers
 used-few z img sound s hs ne = omega (arith, used-small z img s hs (sound .fits .chains) ne, sound .fits .frame .tierCount)
 
--- what a store knows after its scan
-pub record Scanned (z : Shape) (img key value : List ℕ) (old : Old) (s n : ℕ) (r : Run) : Type 0 where
+-- what a store knows once it has its place
+pub record Scanned (z : Shape) (img key value : List ℕ) (n : ℕ) (p : EntryPlace) : Type 0 where
   pub storable : Storable z img key value
   pub keyBytes : Bytes key
   pub valueBytes : Bytes value
-  pub oldIs : old ≡ oldOf (find z img key)
-  pub segmentIs : s ≡ segmentOf (z .settings) key
   pub chunksIs : n ≡ chunksFor (z .settings) (length key) (length value)
-  pub runIs : r ≡ firstRun z (fullBut z img old) (clearBut z img old) (chain z img s) n
+  pub placeIs : PlaceIs z img key n p
 
-pub scanned : {z : Shape} {img key value : List ℕ} {old : Old} {h s n : ℕ} {r : Run} → Storable z img key value → Bytes key → Bytes value
-    → n ≡ chunksFor (z .settings) (length key) (length value) → h ≡ xxh64 key → s ≡ segmentOfHash (z .settings) h → old ≡ oldOf (find z img key)
-    → r ≡ firstRun z (fullBut z img old) (clearBut z img old) (chain z img s) n → Scanned z img key value old s n r
-unfolding segmentOf
-scanned {z} w kb vb en eh es eo er =
-    record {
-      storable = w;
-      keyBytes = kb;
-      valueBytes = vb;
-      oldIs = eo;
-      segmentIs = es ∙ ap (segmentOfHash (z .settings)) eh;
-      chunksIs = en;
-      runIs = er;
-    }
+pub scanned : {z : Shape} {img key value : List ℕ} {n : ℕ} {p : EntryPlace} → Storable z img key value → Bytes key → Bytes value
+    → n ≡ chunksFor (z .settings) (length key) (length value) → PlaceIs z img key n p → Scanned z img key value n p
+scanned w kb vb en ep = record { storable = w; keyBytes = kb; valueBytes = vb; chunksIs = en; placeIs = ep }
 
-module _ {z : Shape} {img key value : List ℕ} {old : Old} {s n : ℕ} {r : Run} (w : Scanned z img key value old s n r) where
+module _ {z : Shape} {img key value : List ℕ} {n : ℕ} {p : EntryPlace} (w : Scanned z img key value n p) where
   open Shape z using (settings)
   open Settings settings using (segments, chunks)
 
@@ -86,33 +82,48 @@ module _ {z : Shape} {img key value : List ℕ} {old : Old} {s n : ℕ} {r : Run
   abbrev img₁ : List ℕ
   img₁ = without z img key
 
-  run-is : r ≡ runOf z img₁ key value
-  run-is = scan-is z img sound key value old r s n (w .oldIs) (w .segmentIs) (w .chunksIs) (w .runIs)
+  abbrev old : Old
+  old = p .old
+
+  old-of : old ≡ oldOf (find z img key)
+  old-of = w .placeIs .oldIs ∙ found-old z img sound key
+
+  run-is : p .run ≡ runOf z img₁ key value
+  run-is = scan-is z img sound key value old-of (w .chunksIs) (w .placeIs .runIs)
 
   sound₁ : SoundBut z img₁ (left (find z img key))
   sound₁ = without-sound z img sound key
 
   old-is : withoutOld z img old ≡ img₁
-  old-is = withoutOld-is z img sound key old (w .oldIs)
+  old-is = withoutOld-is z img sound key old old-of
 
   hs : segmentOf settings key < segments
   hs = segment-lt (sound .fits .valid) key
 
   -- ---- no tier takes it, and none is free
 
-  pub no-room : (head : ℕ) → r ≡ Nowhere → head ≡ freeHead z img → head ≡ 0 → Stores z img key value false img
+  pub no-room : (head : ℕ) → p .run ≡ Nowhere → head ≡ freeHead z img → head ≡ 0 → Stores z img key value false img
   unfolding noRoom
   no-room head f eh e0 = (rw (← run-is, f) (eq-eqb (freeHead z img₁) 0 (without-head z img sound key ∙ sym eh ∙ e0)), refl)
 
   -- ---- a tier of the chain takes it
 
-  module _ (t c : ℕ) (f : r ≡ At t c) where
-    pub run-replaces : Replaces z img old t c key value
+  module _ (t c : ℕ) (f : p .run ≡ At t c) where
+    fits : Places z img₁ (left (find z img key)) (segmentOf settings key) t c key value
+    fits = fits-at z img key value (w .storable) (w .keyBytes) (w .valueBytes) t c (sym run-is ∙ f)
+
+    -- the slot is known in another tier than the old entry's, and there no slot was moved
+    slot-known : KnownFor z img₁ t key (p .slot)
+    slot-known j e =
+        let there : (j ≡ firstEmpty z img key t) × (t ≢ old .tier) = w .placeIs .slotIs t c j f e in
+        there .0 ∙ sym (without-room z img sound key t (is-tier fits) (λ q. there .1 (q ∙ sym (old-tier z img sound key old old-of))))
+
+    pub run-replaces : Replaces z img old t c (p .slot) key value
     run-replaces =
         record {
           framed = sound-framed z img sound;
-          oldFits = old-fits z img sound key old (w .oldIs);
-          places = rw old-is (can-place (fits-at z img key value (w .storable) (w .keyBytes) (w .valueBytes) t c (sym run-is ∙ f)));
+          oldFits = old-fits z img sound key old old-of;
+          places = rw old-is (can-place fits slot-known);
         }
 
     pub run-stored : {y : List ℕ} → y ≡ replacedOld z img old t c key value → Stores z img key value true y
@@ -120,13 +131,13 @@ module _ {z : Shape} {img key value : List ℕ} {old : Old} {s n : ℕ} {r : Run
     run-stored ey = (
       rw (← run-is, f),
       ey
-          ∙ ap₂ (λ (x : List ℕ) (u : ℕ). settle z (placeAt z x t c key value) (touched t u)) old-is (old-tier z img sound key old (w .oldIs))
+          ∙ ap₂ (λ (x : List ℕ) (u : ℕ). settle z (placeAt z x t c key value) (touched t u)) old-is (old-tier z img sound key old old-of)
           ∙ rw (← run-is, f),
     )
 
   -- ---- the first free tier takes it
 
-  module _ (head : ℕ) (f : r ≡ Nowhere) (eh : head ≡ freeHead z img) (ne : head ≢ 0) where
+  module _ (head s : ℕ) (f : p .run ≡ Nowhere) (eh : head ≡ freeHead z img) (ne : head ≢ 0) (es : s ≡ segmentOf settings key) where
     head-is : head ≡ freeHead z img₁
     head-is = eh ∙ sym (without-head z img sound key)
 
@@ -140,9 +151,11 @@ module _ {z : Shape} {img key value : List ℕ} {old : Old} {s n : ℕ} {r : Run
     free-extends =
         record {
           framed = sound-framed z img sound;
-          oldFits = old-fits z img sound key old (w .oldIs);
-          places = rw (old-is, head-is, w .segmentIs) (can-place (fits-free z img key value (w .storable) (w .keyBytes) (w .valueBytes) some-free));
-          joins = rw (old-is, w .segmentIs) (record {
+          oldFits = old-fits z img sound key old old-of;
+          places =
+              rw (old-is, head-is, es)
+              (can-place (fits-free z img key value (w .storable) (w .keyBytes) (w .valueBytes) some-free) (λ j e. absurd (not-known j e)));
+          joins = rw (old-is, es) (record {
             follows = record {
               framed = sound-framed z img₁ sound₁;
               segmentIn = hs;
@@ -159,7 +172,7 @@ module _ {z : Shape} {img key value : List ℕ} {old : Old} {s n : ℕ} {r : Run
       rw (← run-is, f) (ne-eqb (freeHead z img₁) 0 some-free),
       ey
           ∙ ap₂ (λ (x : List ℕ) (u : ℕ). settle z (placeAt z (join z x s) head 0 key value) (touched head u)) old-is
-          (old-tier z img sound key old (w .oldIs))
-          ∙ ap₂ (λ (q t : ℕ). settle z (placeAt z (join z img₁ q) t 0 key value) (touched t (tierOf (find z img key)))) (w .segmentIs) head-is
+          (old-tier z img sound key old old-of)
+          ∙ ap₂ (λ (q t : ℕ). settle z (placeAt z (join z img₁ q) t 0 key value) (touched t (tierOf (find z img key)))) (es) head-is
           ∙ rw (← run-is, f),
     )

@@ -7,7 +7,7 @@ use mathlib.Core.Bool.{true, false, not}
 use mathlib.Core.Option.{Option, none, some}
 use native.Mathlib.Omega.{arith}
 use Rattle.lists.specs.Lists.{those, total}
-use Rattle.lists.specs.Quantify.{Every}
+use Rattle.lists.specs.Quantify.{Below, Every}
 use Rattle.lists.proofs.Totals.{total-same, total-zero, total-at, those-total}
 use Rattle.words.specs.Bytes.{same}
 use Rattle.words.proofs.Bytes.{same-eq, same-false}
@@ -19,6 +19,9 @@ use Rattle.entries.specs.declared.Live.{Live}
 use Rattle.entries.specs.Stored.{keyOf}
 use Rattle.entries.specs.Live.{slotAt, liveAt, live}
 use Rattle.entries.proofs.LiveLists.{in-live}
+use Rattle.entries.proofs.Hashes.{start-lt}
+use Rattle.probe.proofs.Search.{room-same}
+use Rattle.search.specs.Search.{slotsOf, firstEmpty}
 use Rattle.search.specs.Rules.{keyAt}
 use Rattle.entries.specs.Pairs.{Pair, pairOf, pairsOf}
 use Rattle.sound.specs.Sound.{SoundImage, SoundBut}
@@ -29,7 +32,7 @@ use Rattle.counters.proofs.LowMarks.{low-stays, low-only, settle-lows}
 use Rattle.sound.proofs.KeyCounts.{withKey, keys-once, pair-live, live-pair}
 use Rattle.removal.specs.Removal.{removeEntry}
 use Rattle.removal.proofs.Removing.{removal-only, removal-sound, removal-tier, removal-pairs, removal-head}
-use Rattle.edit.specs.Edits.{find, withoutEntry, without, left, removedEntry, removeImage, removeTiers}
+use Rattle.edit.specs.Edits.{find, withoutEntry, without, left, removedEntry, removeImage, removeTiers, tierOf}
 use Rattle.edit.proofs.Finding.{find-live, find-none}
 
 -- ---- a key's weight
@@ -68,6 +71,12 @@ module _ (z : Shape) (img : List ℕ) (sound : SoundImage z img) (key : List ℕ
   unfolding withoutEntry
   entry-lows none f u is out = low-stays
   entry-lows (some e) f u is out = low-only (removal-only z img every e (find-live z img key e f .0)) is (λ q. out (List·Memᴰ·head q))
+
+  entry-slots : (o : Option Live) → find z img key ≡ o → (t : ℕ) → IsTier z t → t ≢ tierOf o
+      → Below (z .settings .slots) (λ j. slotAt z (withoutEntry z img o) t j ≡ slotAt z img t j)
+  unfolding withoutEntry
+  entry-slots none f t is ne = λ j h. refl
+  entry-slots (some e) f t is ne = removal-only z img every e (find-live z img key e f .0) .others t is ne .slots
 
   entry-left : (o : Option Live) → find z img key ≡ o → Every (left o) (IsChained z (withoutEntry z img o))
   unfolding withoutEntry
@@ -114,6 +123,12 @@ module _ (z : Shape) (img : List ℕ) (sound : SoundImage z img) (key : List ℕ
   pub without-lows : (u : ℕ) → IsTier z u → (List·Memᴰ u (left (find z img key)) → ⊥) → LowKept z img (without z img key) u
   unfolding without
   without-lows = entry-lows (find z img key) refl
+
+  -- nor does their first empty slot move
+  pub without-room : (t : ℕ) → IsTier z t → t ≢ tierOf (find z img key) → firstEmpty z (without z img key) key t ≡ firstEmpty z img key t
+  unfolding without
+  without-room t is ne =
+      room-same (slotsOf z t) _ (start-lt (sound .fits .valid) _) (without z img key) img (entry-slots (find z img key) refl t is ne)
 
   pub without-key : total (pairsOf z (without z img key)) (withKey key) ≡ 0
   unfolding without

@@ -17,6 +17,9 @@ use Rattle.sound.specs.Sound.{SoundImage}
 use Rattle.counters.specs.Recount.{settle, touched}
 use Rattle.removal.specs.Removal.{removeAt}
 use Rattle.placement.specs.declared.Old.{Old}
+use Rattle.placement.specs.declared.NewSlot.{NewSlot}
+use Rattle.placement.specs.declared.NewSlot.the-variants.{Unknown}
+use Rattle.placement.specs.OldEntry.{noOld}
 use Rattle.placement.specs.Asking.{CanPlace}
 use Rattle.placement.specs.Placement.{placeAt}
 use Rattle.joining.specs.Joining.{join}
@@ -24,7 +27,7 @@ use Rattle.joining.specs.Asking.{CanJoin}
 use Rattle.edit.specs.Edits.{noRoom, storeImage}
 
 unfoldable pub oldOf : Option Live → Old
-oldOf none = record { tier = 0; slot = 0; chunk = 0; chunks = 0 }
+oldOf none = noOld
 oldOf (some e) = record { tier = e .tier; slot = e .slot; chunk = e .chunk; chunks = e .chunks }
 
 -- the image without it
@@ -61,13 +64,13 @@ pub record Storable (z : Shape) (img key value : List ℕ) : Type 0 where
   pub valueFits : ValueFits (z .settings) (length key) (length value)
 
 -- what its two ends ask for, once the place is known
-pub record Replaces (z : Shape) (img : List ℕ) (old : Old) (t c : ℕ) (key value : List ℕ) : Type 0 where
+pub record Replaces (z : Shape) (img : List ℕ) (old : Old) (t c : ℕ) (slot : NewSlot) (key value : List ℕ) : Type 0 where
   pub framed : Framed z (length img)
   pub oldFits : OldFits z old
-  pub places : CanPlace z (withoutOld z img old) t c key value
+  pub places : CanPlace z (withoutOld z img old) t c slot key value
 
 pub record Extends (z : Shape) (img : List ℕ) (old : Old) (s t : ℕ) (key value : List ℕ) : Type 0 where
   pub framed : Framed z (length img)
   pub oldFits : OldFits z old
   pub joins : CanJoin z (withoutOld z img old) s
-  pub places : CanPlace z (join z (withoutOld z img old) s) t 0 key value
+  pub places : CanPlace z (join z (withoutOld z img old) s) t 0 Unknown key value

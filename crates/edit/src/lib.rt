@@ -1,5 +1,6 @@
 // Removal and store of a key in an image that was accepted.
 use layout::Shape;
+use placement::NewSlot;
 use placement::Old;
 use placement::Run;
 use search::Found;
@@ -16,20 +17,9 @@ fn old_entry(z: Shape, img: &[u8], key: &[u8]) -> Old
     ensures { λ r. ⌜ r ≡ oldOf (find z (now (img .entry)) (now (key .entry))) ⌝ }
 {
     let Found::At(t, j) = search::search(z, img, key) else {
-        return Old {
-            tier: 0,
-            slot: 0,
-            chunk: 0,
-            chunks: 0,
-        };
+        return Old::none();
     };
-    let e = entries::read::entry_at(z, img, t, j);
-    Old {
-        tier: t,
-        slot: j,
-        chunk: entries::read::chunk_of(z, img, t, j),
-        chunks: entries::chunks_for(z.settings, e.keyLength, e.valueLength),
-    }
+    Old::at(z, img, t, j)
 }
 
 // Removes it.
@@ -59,12 +49,21 @@ pub fn remove(z: Shape, img: &mut [u8], key: &[u8]) -> bool
 }
 
 // The new entry goes to tier t, in the chunks from c on. The counters follow when all else is written.
-fn replace(z: Shape, img: &mut [u8], old: Old, t: usize, c: usize, key: &[u8], value: &[u8])
-    requires { ⌜ Replaces z (now img) old t c (now key) (now value) ⌝ }
+fn replace(
+    z: Shape,
+    img: &mut [u8],
+    old: Old,
+    t: usize,
+    c: usize,
+    slot: NewSlot,
+    key: &[u8],
+    value: &[u8],
+)
+    requires { ⌜ Replaces z (now img) old t c slot (now key) (now value) ⌝ }
     ensures { λ r. ⌜ now (img .exit) ≡ replacedOld z (now (img .entry)) old t c (now (key .entry)) (now (value .entry)) ⌝ }
 {
     remove_old(z, img, old);
-    placement::place::place_at(z, img, t, c, key, value);
+    placement::place::place_at(z, img, t, c, slot, key, value);
     counters::settle(z, img, t, old.tier);
 }
 
@@ -75,7 +74,7 @@ fn extend(z: Shape, img: &mut [u8], old: Old, s: usize, t: usize, key: &[u8], va
 {
     remove_old(z, img, old);
     joining::join(z, img, s);
-    placement::place::place_at(z, img, t, 0, key, value);
+    placement::place::place_at(z, img, t, 0, NewSlot::Unknown, key, value);
     counters::settle(z, img, t, old.tier);
 }
 
@@ -85,17 +84,19 @@ pub fn store(z: Shape, img: &mut [u8], key: &[u8], value: &[u8]) -> bool
     ensures { λ r. ⌜ Stores z (now (img .entry)) (now (key .entry)) (now (value .entry)) r (now (img .exit)) ⌝ }
 {
     let n = entries::chunks_for(z.settings, key.len(), value.len());
-    let s = entries::keys::segment_of_hash(z.settings, xxh64::xxh64(key));
-    let old = old_entry(z, img, key);
-    let scan = placement::runs::first_run(z, img, old, s, n);
+    let place = placement::walk::place_for(z, img, key, n);
+    let old = place.old;
+    let scan = place.run;
+    let slot = place.slot;
     let Run::At(t, c) = scan else {
         let head = layout::read::first_free(z, img) as usize;
         if head == 0 {
             return false;
         }
+        let s = entries::keys::segment_of_hash(z.settings, xxh64::xxh64(key));
         extend(z, img, old, s, head, key, value);
         return true;
     };
-    replace(z, img, old, t, c, key, value);
+    replace(z, img, old, t, c, slot, key, value);
     true
 }

@@ -11,12 +11,12 @@ use Rattle.links.proofs.Runs.{run-from, run-same}
 use Rattle.links.proofs.Edits.{linked-one, linked-append, linked-rest}
 use Rattle.layout.specs.declared.Shape.{Shape}
 use Rattle.layout.specs.Tiers.{tiers, IsTier}
-use Rattle.chains.specs.Chains.{nextOf, follow, endOf, chain, freeHead, freeChain, ChainsFit}
+use Rattle.chains.specs.Chains.{nextOf, follow, endOf, chain, freeHead, freeChain, ChainsFit, lastTier}
 use Rattle.chains.proofs.Tiers.{chain-tiers, free-tiers}
 use Rattle.chains.proofs.Linked.{linked-chain, chain-linked, free-linked, linked-ends}
 use Rattle.chains.proofs.Chained.{chain-segment, free-not-chained}
-use Rattle.joining.specs.Joining.{lastTier}
-use Rattle.joining.proofs.Ends.{last-in, last-next, free-cons, free-list, new-tier, not-new}
+use Rattle.chains.proofs.Segments.{last-in}
+use Rattle.joining.proofs.Ends.{last-next, free-cons, free-list, new-tier, not-new}
 use Rattle.joining.proofs.Writes.{Joins}
 
 module _ (z : Shape) (img : List ℕ) (s : ℕ) (hs : s < z .settings .segments) (fits : ChainsFit z img) (ne : freeHead z img ≢ 0) where
@@ -39,7 +39,7 @@ module _ (z : Shape) (img : List ℕ) (s : ℕ) (hs : s < z .settings .segments)
           run-same
           (λ u m.
           j .nextOther u (chain-tiers z img fits q hq u m)
-          (λ e. nq (chain-segment z img fits q s u hq hs m (subst (λ (x : ℕ). List·Memᴰ x (chain z img s)) (sym e) (last-in z img s hs fits))))
+          (λ e. nq (chain-segment z img fits q s u hq hs m (subst (λ (x : ℕ). List·Memᴰ x (chain z img s)) (sym e) (last-in z img s hs))))
           (not-new z img s hs fits ne q u hq m))
           (linked-chain z img q (fits .segmentsFit q hq))
 
@@ -56,7 +56,7 @@ module _ (z : Shape) (img : List ℕ) (s : ℕ) (hs : s < z .settings .segments)
 
     joined-linked : Linked (nextOf z img′) (suc s) (chain z img s ++ (freeHead z img ∷ []))
     joined-linked =
-        linked-append (linked-chain z img s (fits .segmentsFit s hs)) (last-in z img s hs fits) (last-next z img s hs fits)
+        linked-append (linked-chain z img s (fits .segmentsFit s hs)) (last-in z img s hs) (last-next z img s hs fits)
         (λ u m nl. j .nextOther u (chain-tiers z img fits s hs u m) nl (not-new z img s hs fits ne s u hs m))
         (j .nextLast) (linked-one ne (j .nextNew))
 
@@ -74,7 +74,7 @@ module _ (z : Shape) (img : List ℕ) (s : ℕ) (hs : s < z .settings .segments)
         (linked-rest (free-list z img s hs fits ne)
         (λ u m nt.
         j .nextOther u (others-tiers u m)
-        (free-not-chained z img fits s (lastTier z img s) u hs (last-in z img s hs fits) (others-free u m)) nt))
+        (free-not-chained z img fits s (lastTier z img s) u hs (last-in z img s hs) (others-free u m)) nt))
 
     pub shorter-free : freeChain z img′ ≡ others
     shorter-free = free-linked z img′ others-tiers others-linked

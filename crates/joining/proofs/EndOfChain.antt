@@ -1,32 +1,21 @@
 -- The loop to the end of a segment's chain: the last tier that it has met.
-use Prim.Native.Nat.{ℕ, suc, _+_, _-_, _≤_, _<_}
+use Prim.Native.Nat.{ℕ, suc, _+_, _≤_, _<_}
 use mathlib.Core.List.{List, [], _∷_, _++_}
 use mathlib.Core.Path.{_≡_, refl, sym, _∙_, ap}
 use mathlib.Core.Logic.{_≢_}
 use native.Mathlib.Omega.{arith}
 use lib.ListN.{length, getD, length-append}
 use lib.Seq.{getD-append-seam}
-use Rattle.lists.proofs.Lists.{member}
 use Rattle.layout.specs.declared.Shape.{Shape}
 use Rattle.layout.specs.Tiers.{tiers, IsTier}
-use Rattle.chains.specs.Chains.{chain, nextOf}
-use Rattle.chains.proofs.Segments.{chain-length}
+use Rattle.chains.specs.Chains.{chain, nextOf, lastTier}
+use Rattle.chains.proofs.Segments.{last-in, last-met}
 use Rattle.chains.proofs.Along.{AlongChain, chain-starts, chain-ends, chain-out, chain-in, chain-turns}
-use Rattle.joining.specs.Joining.{lastTier}
 use Rattle.joining.specs.Asking.{EndsAt, CanFollow}
 
--- the last of a list, counted after one more in front
-pub last-after : (d : ℕ) (l : List ℕ) → 0 < length l → getD (d ∷ l) (length l) 0 ≡ getD l (length l - 1) 0
-last-after d [] h = absurd (omega arith)
-last-after d (x ∷ xs) h = let e : suc (length xs) - 1 ≡ length xs = omega arith in rw e
-
 module _ (z : Shape) (img : List ℕ) (s : ℕ) where
-  pub chain-some : s < z .settings .segments → 0 < length (chain z img s)
-  chain-some h = omega (arith, chain-length z img s h)
-
   pub last-tier : CanFollow z img s → IsTier z (lastTier z img s)
-  last-tier can =
-      can .tiersOf (lastTier z img s) (member (chain z img s) (length (chain z img s) - 1) (omega (arith, chain-some (can .segmentIn))))
+  last-tier can = can .tiersOf (lastTier z img s) (last-in z img s (can .segmentIn))
 
   pub record Ending (most last t k : ℕ) : Type 0 where
     pub done : List ℕ
@@ -39,9 +28,8 @@ module _ (z : Shape) (img : List ℕ) (s : ℕ) where
   module _ {most last t k : ℕ} (w : Ending most last t k) (can : CanFollow z img s) where
     ended : w .done ≡ chain z img s → EndsAt z img s last k
     ended e =
-        let last-is : getD (0 ∷ chain z img s) (length (chain z img s)) 0 ≡ lastTier z img s = last-after 0 (chain z img s) (chain-some (can .segmentIn)) in
         record {
-          lastIs = w .lastIs ∙ ap (λ (l : List ℕ). getD (0 ∷ l) (length l) 0) e ∙ last-is;
+          lastIs = w .lastIs ∙ ap (λ (l : List ℕ). getD (0 ∷ l) (length l) 0) e ∙ last-met z img s (can .segmentIn);
           lengthIs = sym (w .along .count) ∙ ap length e;
         }
 

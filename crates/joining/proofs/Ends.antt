@@ -5,7 +5,6 @@ use mathlib.Core.Path.{_≡_, refl, ap, sym, _∙_}
 use mathlib.Core.Logic.{_≢_}
 use native.Mathlib.Omega.{arith}
 use lib.ListN.{length, length-append}
-use Rattle.lists.proofs.Lists.{member}
 use Rattle.links.specs.Links.{Linked}
 use Rattle.links.proofs.Runs.{run-last, linked-start}
 use Rattle.links.proofs.Follow.{follow-more, length-follow}
@@ -14,21 +13,17 @@ use Rattle.layout.specs.declared.Shape.{Shape}
 use Rattle.layout.specs.Tiers.{tiers, IsTier, IsExtra}
 use Rattle.layout.specs.Places.{get, global, usedTiers}
 use Rattle.layout.specs.Frame.{Image}
-use Rattle.chains.specs.Chains.{nextOf, follow, chain, freeHead, freeChain, chainedExtra, ChainsFit}
-use Rattle.chains.proofs.Segments.{segments-le}
+use Rattle.chains.specs.Chains.{nextOf, follow, chain, freeHead, freeChain, chainedExtra, ChainsFit, lastTier}
+use Rattle.chains.proofs.Segments.{segments-le, chain-some, last-in}
 use Rattle.chains.proofs.Tiers.{chain-tiers, free-tiers}
 use Rattle.chains.proofs.Linked.{linked-chain, linked-free}
 use Rattle.chains.proofs.Chained.{free-not-chained}
 use Rattle.chains.proofs.Counts.{extras-number}
-use Rattle.joining.specs.Joining.{lastTier, join}
-use Rattle.joining.proofs.EndOfChain.{chain-some}
+use Rattle.joining.specs.Joining.{join}
 use Rattle.joining.proofs.Writes.{Joins, joins}
 
 module _ (z : Shape) (img : List ℕ) (s : ℕ) (hs : s < z .settings .segments) (fits : ChainsFit z img) where
   -- ---- the last tier of the chain
-
-  pub last-in : List·Memᴰ (lastTier z img s) (chain z img s)
-  last-in = member (chain z img s) (length (chain z img s) - 1) (omega (arith, chain-some z img s hs))
 
   pub last-next : nextOf z img (lastTier z img s) ≡ 0
   last-next = run-last (linked-chain z img s (fits .segmentsFit s hs)) (chain-some z img s hs)
@@ -73,9 +68,9 @@ module _ (z : Shape) (img : List ℕ) (s : ℕ) (hs : s < z .settings .segments)
     join-joins im =
         let c : tiers z ≤ 1024 = im .framed .tierCount in
         let t : IsTier z (freeHead z img) = new-tier in
-        let last-is : IsTier z (lastTier z img s) = chain-tiers z img fits s hs (lastTier z img s) last-in in
+        let last-is : IsTier z (lastTier z img s) = chain-tiers z img fits s hs (lastTier z img s) (last-in z img s hs) in
         let g : z .settings .segments ≤ tiers z = segments-le z img in
         let n : length (chain z img s) ≤ tiers z = length-follow (nextOf z img) (tiers z) (suc s) in
         joins im s (freeHead z img) (lastTier z img s) (nextOf z img (freeHead z img)) (suc (get z img (global usedTiers))) (length (chain z img s))
-        new-tier last-is (not-new s (lastTier z img s) hs last-in) refl refl
+        new-tier last-is (not-new s (lastTier z img s) hs (last-in z img s hs)) refl refl
         (omega arith) (omega (arith, next-small)) (omega (arith, used-small)) (omega arith) (omega arith) (omega arith)

@@ -14,10 +14,9 @@ use Rattle.lists.proofs.Lists.{howMany-append, member}
 use Rattle.layout.specs.declared.Shape.{Shape}
 use Rattle.layout.specs.Tiers.{IsTier, IsExtra}
 use Rattle.layout.specs.Places.{previous, segment, order}
-use Rattle.chains.specs.Chains.{chain, freeHead, freeChain, chained, chainedExtra, Once, StandsAt, ChainFits, ChainsFit}
-use Rattle.joining.specs.Joining.{lastTier}
+use Rattle.chains.specs.Chains.{chain, freeHead, freeChain, chained, chainedExtra, Once, StandsAt, ChainFits, ChainsFit, lastTier}
 use Rattle.chains.proofs.Tiers.{chain-tiers}
-use Rattle.joining.proofs.EndOfChain.{last-after, chain-some}
+use Rattle.chains.proofs.Segments.{chain-some, last-met}
 use Rattle.joining.proofs.Ends.{free-cons, new-extra, not-new}
 use Rattle.lists.proofs.Parts.{parts-longer}
 use Rattle.joining.proofs.Chains.{others, others-free, other-chain, other-ends, longer-chain, longer-ends, shorter-free, free-ends}
@@ -74,7 +73,7 @@ module _ (z : Shape) (img : List ℕ) (s : ℕ) (hs : s < z .settings .segments)
       ⊎-elim
       (λ (e : i ≡ length c).
       let a : getD (c ++ (t ∷ [])) i 0 ≡ t = rw e (getD-append-seam c t [] 0) in
-      let d : getD (0 ∷ (c ++ (t ∷ []))) i 0 ≡ lastTier z img s = b ∙ rw e (last-after 0 c (chain-some z img s hs)) in
+      let d : getD (0 ∷ (c ++ (t ∷ []))) i 0 ≡ lastTier z img s = b ∙ rw e (last-met z img s hs) in
       subst₂ (StandsAt z img′ s i) (sym a) (sym d) (record { segmentIs = j .segmentNew; orderIs = j .orderNew ∙ sym e; previousIs = j .previousNew }))
       (λ (e : i ≢ length c).
       let k : i < length c = omega arith in

@@ -12,13 +12,13 @@ use Rattle.layout.specs.declared.Shape.{Shape}
 use Rattle.layout.specs.Tiers.{IsTier, IsExtra}
 use Rattle.layout.specs.Places.{bulkCount, headersOffset, storeSize, mark}
 use Rattle.layout.proofs.Frames.{shape-same, fits-same}
-use Rattle.chains.specs.Chains.{chain, freeHead, freeChain}
+use Rattle.chains.specs.Chains.{chain, freeHead, freeChain, lastTier}
 use Rattle.entries.specs.Live.{slotAt, fullSlots}
 use Rattle.search.specs.Rules.{keyAt, KeysOnce, EntriesFit}
 use Rattle.chunks.specs.Chunks.{MarksFit, CountersFit, FreeTierFits}
 use Rattle.entries.specs.Pairs.{Pair, pairsOf}
 use Rattle.sound.specs.Sound.{SoundBut}
-use Rattle.joining.specs.Joining.{lastTier, join}
+use Rattle.joining.specs.Joining.{join}
 use Rattle.chains.proofs.Tiers.{chain-tiers}
 use Rattle.sound.proofs.AgreeTier.{SameTier, SameCounters, same-tier-fits, same-marks, same-counters, same-free}
 use Rattle.sound.proofs.Sound.{sound-image}

@@ -8,8 +8,8 @@ use Rattle.layout.specs.declared.Shape.{Shape}
 use Rattle.layout.specs.Places.{Place, get, put, puts, global, firstFree, usedTiers, tier, counter, previous, segment, order, nextPlace}
 use Rattle.layout.specs.Frame.{Framed}
 use Rattle.layout.proofs.Places.{length-put}
-use Rattle.chains.specs.Chains.{chain, nextOf, freeHead}
-use Rattle.joining.specs.Joining.{lastTier, join}
+use Rattle.chains.specs.Chains.{chain, nextOf, freeHead, lastTier}
+use Rattle.joining.specs.Joining.{join}
 
 -- a write keeps the image's length
 pub framed-put : {z : Shape} {img′ : List ℕ} (img : List ℕ) (p : Place) (v : ℕ) → Framed z (length img) → img′ ≡ put z img p v

@@ -11,7 +11,7 @@ use Rattle.lists.specs.Quantify.{Below, Every}
 use Rattle.lists.proofs.Lists.{total-append}
 use Rattle.layout.specs.declared.Shape.{Shape}
 use Rattle.layout.specs.Places.{mark}
-use Rattle.chains.specs.Chains.{chain, chained, freeHead}
+use Rattle.chains.specs.Chains.{chain, chained, freeHead, lastTier}
 use Rattle.probe.specs.Table.{slotTotal}
 use Rattle.entries.specs.Live.{slotAt, fullSlots, liveIn}
 use Rattle.search.specs.Search.{slotsOf}
@@ -19,7 +19,6 @@ use Rattle.search.specs.Rules.{keyAt, TierSlotsFit}
 use Rattle.chunks.specs.Chunks.{covers, FreeTierFits}
 use Rattle.entries.specs.Pairs.{Pair, pairsOf}
 use Rattle.sound.specs.Sound.{SoundBut}
-use Rattle.joining.specs.Joining.{lastTier}
 use Rattle.sound.proofs.Values.{ifFull, weigh}
 use Rattle.lists.proofs.Totals.{total-same}
 use Rattle.sound.proofs.Sums.{full-total, pairs-total}

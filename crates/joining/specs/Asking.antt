@@ -8,8 +8,7 @@ use Rattle.layout.specs.declared.Shape.{Shape}
 use Rattle.layout.specs.Tiers.{IsTier}
 use Rattle.layout.specs.Frame.{Framed, mostTiers}
 use Rattle.layout.specs.Places.{get, global, usedTiers}
-use Rattle.chains.specs.Chains.{chain, freeHead}
-use Rattle.joining.specs.Joining.{lastTier}
+use Rattle.chains.specs.Chains.{chain, freeHead, lastTier}
 
 -- segment s's chain ends with tier last and has n tiers
 pub record EndsAt (z : Shape) (img : List ℕ) (s last n : ℕ) : Type 0 where

@@ -1,5 +1,5 @@
 -- Laws of the small functions on lists.
-use Prim.Native.Nat.{ℕ, zero, suc, _+_, _≤_, _<_}
+use Prim.Native.Nat.{ℕ, zero, suc, _+_, _-_, _≤_, _<_}
 use mathlib.Core.List.{List, [], _∷_, _++_, append-assoc, append-nil, flatMap, List·Memᴰ, List·Memᴰ·head, List·Memᴰ·tail, List·Memᴰ·cases-cons, List·Memᴰ·not-nil}
 use mathlib.Core.Path.{_≡_, refl, ap, sym, _∙_}
 use mathlib.Core.Logic.{⊎-elim, _≢_}
@@ -44,6 +44,11 @@ pub member : (l : List ℕ) (i : ℕ) → i < length l → List·Memᴰ (getD l 
 member [] i h = absurd (omega arith)
 member (x ∷ l) zero h = List·Memᴰ·head refl
 member (x ∷ l) (suc i) h = List·Memᴰ·tail (member l i (omega arith))
+
+-- the last of a list, counted after one more in front
+pub last-after : (d : ℕ) (l : List ℕ) → 0 < length l → getD (d ∷ l) (length l) 0 ≡ getD l (length l - 1) 0
+last-after d [] h = absurd (omega arith)
+last-after d (x ∷ xs) h = let e : suc (length xs) - 1 ≡ length xs = omega arith in rw e
 
 module _ {A : Type 0} where
   -- ---- lists of lists

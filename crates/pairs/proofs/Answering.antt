@@ -18,6 +18,8 @@ use Rattle.image.specs.declared.Outcome.the-variants as outcome
 use Rattle.image.specs.declared.Verdict.{Verdict}
 use Rattle.image.specs.Check.{check}
 use Rattle.chronicle_map.specs.declared.Located.{Located}
+use Rattle.chronicle_map.specs.declared.RecordPlace.{RecordPlace}
+use Rattle.chronicle_map.specs.declared.SearchEnd.{SearchEnd}
 use Rattle.chronicle_map.specs.declared.Located.the-variants as looked
 use Rattle.chronicle_map.specs.declared.Answer.{Answer}
 use Rattle.chronicle_map.specs.Calls.{lookup, recordAt, recordLength, recordBytes, Edited, store}
@@ -93,16 +95,18 @@ module _ (block img : List ℕ) (a b : ℕ) where
     unfolding fromLocated
     found-refused s e = from-lookup e
 
-    pub found-none : l ≡ looked.Absent → asked.Absent ≡ delay block img a b
+    pub found-none : (end : SearchEnd) → l ≡ looked.Absent end → asked.Absent ≡ delay block img a b
     unfolding fromLocated
-    found-none e = from-lookup e
+    found-none end e = from-lookup e
 
-    pub found-record : (at n : ℕ) → l ≡ looked.Found at n → {r : Asked}
-        → r ≡ fromRecord a b (take (at + n - at) (drop at img)) (recordFits? (take (at + n - at) (drop at img))) → r ≡ delay block img a b
+    pub found-record : (p : RecordPlace) → l ≡ looked.Found p → {r : Asked} {bytes : List ℕ}
+        → bytes ≡ take (p .offset + p .length - p .offset) (drop (p .offset) img) → r ≡ fromRecord a b bytes (recordFits? bytes)
+        → r ≡ delay block img a b
     unfolding fromLocated recordBytes recordAt recordLength
-    found-record at n e er =
-        let q : at + n - at ≡ n = omega arith in
-        er ∙ ap (λ (k : ℕ). fromRecord a b (take k (drop at img)) (recordFits? (take k (drop at img)))) q ∙ from-lookup e
+    found-record p e eb er =
+        let q : p .offset + p .length - p .offset ≡ p .length = omega arith in
+        let is : _ = eb ∙ ap (λ (k : ℕ). take k (drop (p .offset) img)) q in
+        er ∙ ap (λ (x : List ℕ). fromRecord a b x (recordFits? x)) is ∙ from-lookup e
 
 -- ---- setting
 

@@ -79,8 +79,8 @@ module _ (block img : List ℕ) where
         → IsAskNumber (askedReply (fromLocated block img a b l) .number)
     unfolding fromLocated
     looked-asked (looked.Refused s) h ne = ask-store (stageNumber s) h ne
-    looked-asked looked.Absent h ne = ask-store 1 h ne
-    looked-asked (looked.Found at n) h ne = record-asked (recordBytes img (looked.Found at n)) (recordFits? (recordBytes img (looked.Found at n)))
+    looked-asked (looked.Absent e) h ne = ask-store 1 h ne
+    looked-asked (looked.Found p) h ne = record-asked (recordBytes img (looked.Found p)) (recordFits? (recordBytes img (looked.Found p)))
 
     pair-asked : (f : Dec (ChannelsFit a b)) → IsAskNumber (askedReply (askPair block img a b f) .number)
     unfolding choose askPair span

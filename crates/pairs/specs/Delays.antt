@@ -27,8 +27,8 @@ fromRecord a b r d = choose d (λ _. asked.BadDelay) (λ _. asked.Found (inOrder
 module _ (block img : List ℕ) (a b : ℕ) where
   unfoldable pub fromLocated : Located → Asked
   fromLocated (looked.Refused s) = asked.Refused s
-  fromLocated looked.Absent = asked.Absent
-  fromLocated (looked.Found at n) = fromRecord a b (recordBytes img (looked.Found at n)) (recordFits? (recordBytes img (looked.Found at n)))
+  fromLocated (looked.Absent e) = asked.Absent
+  fromLocated (looked.Found p) = fromRecord a b (recordBytes img (looked.Found p)) (recordFits? (recordBytes img (looked.Found p)))
 
   -- 11
   unfoldable pub askPair : Dec (ChannelsFit a b) → Asked

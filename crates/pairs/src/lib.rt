@@ -150,8 +150,12 @@ pub fn delay(block: &[u8], img: &[u8], a: u32, b: u32) -> Asked
     let key = pair_key(a, b);
     match chronicle_map::lookup(block, img, &key) {
         Located::Refused(stage) => Asked::Refused(stage),
-        Located::Absent => Asked::Absent,
-        Located::Found(at, n) => from_record(a, b, &img[at..at + n]),
+        Located::Absent(_) => Asked::Absent,
+        Located::Found(p) => {
+            let from = p.offset;
+            let to = p.offset + p.length;
+            from_record(a, b, &img[from..to])
+        }
     }
 }
 

@@ -20,7 +20,8 @@ use Rattle.entries.specs.Stored.{entryBytes, chunksFor, ValueFits}
 use Rattle.entries.specs.Live.{fullSlots}
 use Rattle.entries.proofs.Hashes.{lookup-lt, lookup-full}
 use Rattle.sound.specs.Sound.{SoundBut}
-use Rattle.placement.specs.Asking.{CanPlace}
+use Rattle.placement.specs.declared.NewSlot.{NewSlot}
+use Rattle.placement.specs.Asking.{CanWrite, KnownFor, CanPlace}
 use Rattle.placement.proofs.Written.{some-chunks as Written·some-chunks, chunk-lt, entry-fits, entry-room as Written·entry-room}
 use Rattle.chains.proofs.Tiers.{chain-tiers}
 use Rattle.sound.proofs.Sound.{sound-image}
@@ -65,35 +66,40 @@ module _ {z : Shape} {img but : List ℕ} {s t c : ℕ} {key value : List ℕ} (
   is-tier = chain-tiers z img (p .sound .fits .chains) s (p .segmentIn) t (p .tierIn)
 
   -- what the code asks for
-  pub can-place : CanPlace z img t c key value
-  can-place =
+  pub can-write : CanWrite z img t c key value
+  can-write =
       record {
-        write = record {
-          tier = record { framed = image .framed; tierIn = is-tier };
-          keyLong = p .keyFits .notLonger;
-          valueLong = p .valueFits .notLonger;
-          rangeEnds = p .rangeEnds;
-        };
+        tier = record { framed = image .framed; tierIn = is-tier };
+        keyLong = p .keyFits .notLonger;
+        valueLong = p .valueFits .notLonger;
+        rangeEnds = p .rangeEnds;
+      }
+
+  pub can-place : {slot : NewSlot} → KnownFor z img t key slot → CanPlace z img t c slot key value
+  can-place e =
+      record {
+        write = can-write;
         takes = record {
           someEmpty = p .sound .fits .entries .tiersFit s (p .segmentIn) t (p .tierIn) .slotsFit .someEmpty;
           lacks = p .absent t (p .tierIn);
         };
+        slotIs = e;
       }
 
   -- ---- its chunks and bytes
 
   pub some-chunks : 0 < chunksFor settings (length key) (length value)
-  some-chunks = Written·some-chunks (can-place .write)
+  some-chunks = Written·some-chunks can-write
 
   pub chunk-in : c < chunks
-  chunk-in = chunk-lt (can-place .write)
+  chunk-in = chunk-lt can-write
 
   -- they end within the run, and so within the tier's chunks
   pub entry-room : length (entryBytes settings key value) ≤ (chunks - c) * chunkSize
-  entry-room = Written·entry-room (can-place .write)
+  entry-room = Written·entry-room can-write
 
   pub entry-end : chunkAt z t c + length (entryBytes settings key value) ≤ chunkAt z t (c + chunksFor settings (length key) (length value))
-  entry-end = omega (arith, entry-fits (can-place .write), chunk-add z t c (chunksFor settings (length key) (length value)))
+  entry-end = omega (arith, entry-fits can-write, chunk-add z t c (chunksFor settings (length key) (length value)))
 
   pub entry-in-chunks : chunkAt z t c + length (entryBytes settings key value) ≤ chunkAt z t chunks
   entry-in-chunks = omega (arith, entry-end, chunk-inside z t (c + chunksFor settings (length key) (length value)) (p .rangeEnds))

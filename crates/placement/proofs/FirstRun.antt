@@ -1,18 +1,29 @@
--- The run that a tier or a chain has for an entry, found as the code looks for it.
-use Prim.Native.Nat.{ℕ, _+_, _≤_, _<_}
-use mathlib.Core.List.{List, [], _∷_, _++_, append-nil, List·Memᴰ·head, List·Memᴰ·tail}
+-- The run that a tier, or the first of some tiers, has for an entry, found as the code looks for it.
+use Prim.Native.Nat.{ℕ, suc, _+_, _-_, _≤_, _<_}
+use mathlib.Core.List.{List, [], _∷_, _++_, List·Memᴰ·head, List·Memᴰ·tail}
 use mathlib.Core.Path.{_≡_, refl, ap, sym, _∙_}
 use mathlib.Core.Logic.{_≢_}
 use mathlib.Core.Bool.{Bool}
+use native.Mathlib.Omega.{arith}
 use borrow.Author.Tests.{le-leb, lt-leb}
-use Rattle.lists.specs.Quantify.{Every, every-none}
-use Rattle.lists.proofs.Members.{every-more}
+use Rattle.lists.specs.Quantify.{Every}
+use Rattle.links.proofs.Follow.{follow-none, follow-more, follow-out}
 use Rattle.layout.specs.declared.Shape.{Shape}
-use Rattle.layout.specs.Tiers.{tiers}
-use Rattle.chains.specs.Chains.{chain, nextOf}
-use Rattle.chains.proofs.Along.{AlongChain, chain-starts, chain-ends, chain-out, chain-splits, chain-in, chain-turns}
+use Rattle.layout.specs.Tiers.{tiers, IsTier}
+use Rattle.chains.specs.Chains.{nextOf}
+use Rattle.chunks.specs.Chunks.{LowMarkFits}
+use Rattle.placement.specs.declared.Run.{Run}
 use Rattle.placement.specs.declared.Run.the-variants.{At, Nowhere}
 use Rattle.placement.specs.Runs.{fromLowest, lowestRun, runIn, firstRun}
+use Rattle.placement.specs.Asking.{tiersFrom}
+
+-- a run, or another where it is nowhere
+abbrev orElse : Run → Run → Run
+orElse r q = elim r [ At u c ↦ At u c | Nowhere ↦ q ]
+
+append-by : (r a b q : Run) → a ≡ orElse b q → orElse r a ≡ orElse (orElse r b) q
+append-by (At u c) a b q e = refl
+append-by Nowhere a b q e = e
 
 module _ (z : Shape) (full : ℕ → ℕ) (isClear : ℕ → ℕ → Bool) where
   -- ---- a tier
@@ -40,50 +51,70 @@ module _ (z : Shape) (full : ℕ → ℕ) (isClear : ℕ → ℕ → Bool) where
   unfolding firstRun
   first-next t ts n e = rw (firstRun, e)
 
-  -- tiers that do not take it are passed over
-  first-passes : (done ts : List ℕ) (n : ℕ) → Every done (λ t. runIn z full isClear t n ≡ Nowhere)
-      → firstRun z full isClear (done ++ ts) n ≡ firstRun z full isClear ts n
-  first-passes [] ts n f = refl
-  first-passes (t ∷ done) ts n f =
-      first-next t (done ++ ts) n (f t (List·Memᴰ·head refl)) ∙ first-passes done ts n (λ u m. f u (List·Memᴰ·tail m))
+  -- ---- tiers in front of others: the first of them that takes it, or else the first of the others
 
-  -- ---- along a chain: none of the tiers that were met takes it
+  first-append : (front ts : List ℕ) (n : ℕ)
+      → firstRun z full isClear (front ++ ts) n ≡ orElse (firstRun z full isClear front n) (firstRun z full isClear ts n)
+  unfolding firstRun
+  first-append [] ts n = refl
+  first-append (t ∷ front) ts n =
+      append-by (runIn z full isClear t n) (firstRun z full isClear (front ++ ts) n) (firstRun z full isClear front n)
+      (firstRun z full isClear ts n) (first-append front ts n)
 
-  module _ (img : List ℕ) (s n : ℕ) where
-    pub record Seeking (most t k : ℕ) : Type 0 where
-      pub done : List ℕ
-      pub along : AlongChain z img s most done t k
-      pub nowhere : Every done (λ u. runIn z full isClear u n ≡ Nowhere)
+  module _ (front ts : List ℕ) (n : ℕ) where
+    pub first-kept : (u c : ℕ) → firstRun z full isClear front n ≡ At u c → firstRun z full isClear (front ++ ts) n ≡ At u c
+    first-kept u c e = first-append front ts n ∙ rw e
 
-    pub seeking-starts : {most t : ℕ} → most ≡ tiers z → t ≡ s + 1 → Seeking most t 0
-    seeking-starts em et =
-        record { done = []; along = chain-starts z img s em et; nowhere = every-none (λ u. runIn z full isClear u n ≡ Nowhere) }
+    pub first-passes : firstRun z full isClear front n ≡ Nowhere → firstRun z full isClear (front ++ ts) n ≡ firstRun z full isClear ts n
+    first-passes e = first-append front ts n ∙ rw e
 
-    module _ {most t k : ℕ} (w : Seeking most t k) where
-      none-takes : w .done ≡ chain z img s → Nowhere ≡ firstRun z full isClear (chain z img s) n
-      none-takes e =
-          let all : chain z img s ≡ w .done ++ [] = sym e ∙ sym (append-nil (w .done)) in
-          sym (ap (λ (r : List ℕ). firstRun z full isClear r n) all ∙ first-passes (w .done) [] n (w .nowhere) ∙ first-none n)
+  pub first-one : (t n : ℕ) → firstRun z full isClear (t ∷ []) n ≡ runIn z full isClear t n
+  first-one t n = one-by (runIn z full isClear t n) refl
+    where
+      one-by : (r : Run) → runIn z full isClear t n ≡ r → firstRun z full isClear (t ∷ []) n ≡ r
+      one-by (At u c) e = first-found t [] n u c e
+      one-by Nowhere e = first-next t [] n e ∙ first-none n
 
-      pub seeking-ends : t ≡ 0 → Nowhere ≡ firstRun z full isClear (chain z img s) n
-      seeking-ends e = none-takes (chain-ends z img s (w .along) e)
+  -- ---- a loop along the links: the tiers that are left give what all of them give
 
-      pub seeking-out : most ≤ k → Nowhere ≡ firstRun z full isClear (chain z img s) n
-      seeking-out h = none-takes (chain-out z img s (w .along) h)
+  module _ (img : List ℕ) (n : ℕ) where
+    pub record Seeking (r : Run) (most t k : ℕ) : Type 0 where
+      pub mostIs : most ≡ tiers z
+      pub is : firstRun z full isClear (tiersFrom z img t k) n ≡ r
+      pub tiersOf : Every (tiersFrom z img t k) (IsTier z)
+      pub lowMarks : Every (tiersFrom z img t k) (LowMarkFits z img)
+
+    module _ {r : Run} {most t k : ℕ} (w : Seeking r most t k) where
+      none-left : tiersFrom z img t k ≡ [] → Nowhere ≡ r
+      none-left e = sym (first-none n) ∙ ap (λ (ts : List ℕ). firstRun z full isClear ts n) (sym e) ∙ w .is
+
+      pub seeking-ends : t ≡ 0 → Nowhere ≡ r
+      seeking-ends e = none-left (rw e (follow-none (nextOf z img) (tiers z - k)))
+
+      pub seeking-out : most ≤ k → Nowhere ≡ r
+      seeking-out h = let e : tiers z - k ≡ 0 = omega (arith, w .mostIs) in none-left (rw e (follow-out (nextOf z img) t))
 
       module _ (h : k < most) (ne : t ≢ 0) where
-        pub seeking-tier : {P : ℕ → Type 0} → Every (chain z img s) P → P t
-        seeking-tier all = all t (chain-in z img s (w .along) h ne)
+        more : tiersFrom z img t k ≡ t ∷ tiersFrom z img (nextOf z img t) (k + 1)
+        more =
+            let e : tiers z - k ≡ suc (tiers z - (k + 1)) = omega (arith, w .mostIs) in
+            rw e (follow-more (nextOf z img) (tiers z - (k + 1)) t ne)
 
-        pub seeking-found : (u c : ℕ) → runIn z full isClear t n ≡ At u c → At u c ≡ firstRun z full isClear (chain z img s) n
-        seeking-found u c f =
-            sym (ap (λ (r : List ℕ). firstRun z full isClear r n) (chain-splits z img s (w .along) h ne)
-            ∙ first-passes (w .done) _ n (w .nowhere) ∙ first-found t _ n u c f)
+        pub seeking-tier : IsTier z t × LowMarkFits z img t
+        seeking-tier = (w .tiersOf t (rw more (List·Memᴰ·head refl)), w .lowMarks t (rw more (List·Memᴰ·head refl)))
 
-        pub seeking-turns : {u : ℕ} → runIn z full isClear t n ≡ Nowhere → u ≡ nextOf z img t → Seeking most u (k + 1)
+        left-is : firstRun z full isClear (t ∷ tiersFrom z img (nextOf z img t) (k + 1)) n ≡ r
+        left-is = ap (λ (ts : List ℕ). firstRun z full isClear ts n) (sym more) ∙ w .is
+
+        pub seeking-found : (u c : ℕ) → runIn z full isClear t n ≡ At u c → At u c ≡ r
+        seeking-found u c f = sym (first-found t _ n u c f) ∙ left-is
+
+        pub seeking-turns : {u : ℕ} → runIn z full isClear t n ≡ Nowhere → u ≡ nextOf z img t → Seeking r most u (k + 1)
         seeking-turns f e =
-            record {
-              done = w .done ++ (t ∷ []);
-              along = chain-turns z img s (w .along) h ne e;
-              nowhere = every-more (w .done) t (w .nowhere) f;
-            }
+            rw e
+            (record {
+              mostIs = w .mostIs;
+              is = sym (first-next t _ n f) ∙ left-is;
+              tiersOf = λ v m. w .tiersOf v (rw more (List·Memᴰ·tail m));
+              lowMarks = λ v m. w .lowMarks v (rw more (List·Memᴰ·tail m));
+            })

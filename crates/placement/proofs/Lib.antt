@@ -3,6 +3,7 @@ pub mod OldEntry
 pub mod LowestRun
 pub mod FirstRun
 pub mod Running
+pub mod Walking
 pub mod Written
 pub mod Before
 pub mod Writing

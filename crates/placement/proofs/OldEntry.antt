@@ -1,7 +1,7 @@
 -- What the code finds of a tier's chunks and slots where the old entry counts as removed.
 use Prim.Native.Nat.{ℕ, _+_, _-_, _≤_, _<_}
 use mathlib.Core.List.{List}
-use mathlib.Core.Path.{_≡_, refl, sym, _∙_}
+use mathlib.Core.Path.{_≡_, refl, ap, sym, _∙_}
 use mathlib.Core.Logic.{_≢_}
 use mathlib.Core.Bool.{Bool, true, false, _&&_}
 use native.Mathlib.Omega.{arith}
@@ -9,12 +9,33 @@ use lib.Dec.{leb, eqb}
 use borrow.Author.Tests.{eqb-true, eqb-false, eq-eqb, ne-eqb, le-leb, lt-leb, lt-ltb, le-ltb}
 use Rattle.lists.specs.Cases.{by-test}
 use Rattle.layout.specs.declared.Shape.{Shape}
+use Rattle.entries.specs.declared.Entry.{Entry}
+use Rattle.entries.specs.Asking.{Lengths}
+use Rattle.entries.specs.Stored.{chunksFor}
+use Rattle.entries.specs.Live.{chunkOf, entryAt}
+use Rattle.entries.proofs.Whole.{entry-small}
 use Rattle.chunks.specs.Chunks.{clear, lowField, LowMarkFits}
 use Rattle.chunks.proofs.LowMark.{low-mark-few, low-mark-below}
 use Rattle.counters.proofs.CountRoom.{full-few}
 use Rattle.placement.specs.declared.Old.{Old}
+use Rattle.placement.specs.OldEntry.{oldAt}
 use Rattle.placement.specs.Runs.{fullIn, fullBut, clearBut}
 use Rattle.placement.specs.Asking.{NoneClearBelow}
+
+-- ---- the entry of a slot, as it is read
+
+module _ (z : Shape) (img : List ℕ) (t j : ℕ) where
+  -- the lengths that were read are small
+  pub entry-lengths : (e : Entry) → e ≡ entryAt z img t j → Lengths (e .keyLength) (e .valueLength)
+  unfolding entryAt
+  entry-lengths e is = rw is (entry-small z img t (chunkOf z img t j))
+
+  pub old-is : {c n : ℕ} {x : Entry} → x ≡ entryAt z img t j → c ≡ chunkOf z img t j
+      → n ≡ chunksFor (z .settings) (x .keyLength) (x .valueLength)
+      → record { tier = t; slot = j; chunk = c; chunks = n } ≡ oldAt z img t j
+  old-is ex ec en =
+      let n′ = en ∙ ap (λ (y : Entry). chunksFor (z .settings) (y .keyLength) (y .valueLength)) ex in
+      λ i. record { tier = t; slot = j; chunk = ec i; chunks = n′ i }
 
 and-false : (a : Bool) → (a && false) ≡ false
 and-false true = refl

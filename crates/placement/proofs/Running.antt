@@ -1,7 +1,7 @@
 -- What the first tier that takes an entry of n chunks has, and on what of the image that depends.
 use Prim.Native.Nat.{ℕ, zero, suc, _+_, _-_, _≤_, _<_}
 use mathlib.Core.List.{List, [], _∷_, List·Memᴰ, List·Memᴰ·head, List·Memᴰ·tail}
-use mathlib.Core.Path.{_≡_, refl, ap, _∙_}
+use mathlib.Core.Path.{_≡_, refl, ap, sym, _∙_}
 use mathlib.Core.Bool.{Bool, true, false}
 use mathlib.Core.Logic.{⊎-elim, _≢_}
 use mathlib.Core.Option.{Option, none, some}
@@ -16,9 +16,12 @@ use Rattle.lists.proofs.Members.{first-in}
 use Rattle.lists.proofs.SameLists.{same-first}
 use Rattle.settings.specs.declared.Settings.{Settings}
 use Rattle.layout.specs.declared.Shape.{Shape}
+use Rattle.chunks.specs.Chunks.{clear}
+use Rattle.placement.specs.declared.Old.{Old}
 use Rattle.placement.specs.declared.Run.{Run}
 use Rattle.placement.specs.declared.Run.the-variants.{At, Nowhere}
-use Rattle.placement.specs.Runs.{fromLowest, clearFrom, lowestRun, runIn, firstRun}
+use Rattle.placement.specs.Runs.{fromLowest, clearFrom, lowestRun, runIn, firstRun, runFor, fullIn, fullBut, clearBut}
+use Rattle.placement.proofs.OldEntry.{clear-else, full-else}
 
 -- ---- what is found
 
@@ -42,7 +45,8 @@ module _ (z : Shape) (full : ℕ → ℕ) (isClear : ℕ → ℕ → Bool) where
     pub ends : c + n ≤ chunks
     pub clear : (i : ℕ) → c ≤ i → i < c + n → isClear t i ≡ true
 
-  lowest-found : (t n c : ℕ) → lowestRun z full isClear t n ≡ some c → (c + n ≤ chunks) × ((i : ℕ) → c ≤ i → i < c + n → isClear t i ≡ true)
+  lowest-found : (t n c : ℕ) → lowestRun z full isClear t n ≡ some c
+      → (c + n ≤ chunks) × ((i : ℕ) → c ≤ i → i < c + n → isClear t i ≡ true)
   unfolding lowestRun
   lowest-found t n c h =
       let r : List·Memᴰ c (below (suc chunks - n)) × (clearFrom z full isClear t c n ≡ true) =
@@ -114,7 +118,8 @@ module _ (z : Shape) (full full′ : ℕ → ℕ) (isClear isClear′ : ℕ → 
   run-in-same t n e f =
       λ i. elim (leb (e i + 2) slots) [ false ↦ Nowhere | true ↦ fromLowest t (lowest-same t n f i) ]
 
-pub run-same : (z : Shape) (full full′ : ℕ → ℕ) (isClear isClear′ : ℕ → ℕ → Bool) (ts : List ℕ) (n : ℕ) → Every ts (λ t. full t ≡ full′ t)
+pub run-same : (z : Shape) (full full′ : ℕ → ℕ) (isClear isClear′ : ℕ → ℕ → Bool) (ts : List ℕ) (n : ℕ)
+    → Every ts (λ t. full t ≡ full′ t)
     → Every ts (λ t. Below (z .settings .chunks) (λ i. isClear t i ≡ isClear′ t i))
     → firstRun z full isClear ts n ≡ firstRun z full′ isClear′ ts n
 unfolding firstRun
@@ -125,3 +130,12 @@ run-same z full full′ isClear isClear′ (t ∷ ts) n e f =
     let there : firstRun z full isClear ts n ≡ firstRun z full′ isClear′ ts n =
     run-same z full full′ isClear isClear′ ts n (λ u m. e u (List·Memᴰ·tail m)) (λ u m. f u (List·Memᴰ·tail m)) in
     λ i. elim (here i) [ At u c ↦ At u c | Nowhere ↦ there i ]
+
+-- in tiers that are not the old entry's it does not matter that this counts as removed
+pub run-others : (z : Shape) (img : List ℕ) (old : Old) (ts : List ℕ) (n : ℕ) → Every ts (λ t. t ≢ old .tier)
+    → firstRun z (fullBut z img old) (clearBut z img old) ts n ≡ runFor z img ts n
+unfolding runFor
+run-others z img old ts n ne =
+    run-same z (fullBut z img old) (fullIn z img) (clearBut z img old) (clear z img) ts n
+    (λ t m. sym (full-else z img old t (ne t m)))
+    (λ t m i h. sym (clear-else z img old t i (ne t m)))

@@ -16,40 +16,45 @@ use Rattle.layout.proofs.Places.{by-kind}
 use Rattle.layout.proofs.Marks.{get-putMarks-other}
 use Rattle.layout.proofs.Chunks.{chunk-add, chunk-inside, chunks-inside, get-sets-other}
 use Rattle.probe.proofs.Search.{room-lt, room-same}
-use Rattle.entries.specs.Keys.{lookupOfHash, lookupKey, slotWith}
+use Rattle.entries.specs.Keys.{segmentOfHash, segmentOf, lookupOfHash, lookupKey, slotWith}
 use Rattle.entries.specs.Stored.{entryBytes, chunksFor}
 use Rattle.entries.specs.Live.{slotAt}
 use Rattle.entries.proofs.Hashes.{start-lt}
 use Rattle.entries.proofs.Sizes.{chunks-pos, chunks-enough, length-entry}
 use Rattle.search.specs.declared.Sought.{Sought}
 use Rattle.search.specs.declared.Sought.the-variants.{Holds, Empty}
-use Rattle.search.specs.Search.{slotsOf, soughtIn}
+use Rattle.search.specs.Search.{slotsOf, soughtIn, firstEmpty}
 use Rattle.search.proofs.Finding.{sought-absent}
-use Rattle.placement.specs.Placement.{written, slotted, placeAt, firstEmpty}
+use Rattle.placement.specs.declared.NewSlot.{NewSlot}
+use Rattle.placement.specs.Placement.{written, slotted, placeAt}
 use Rattle.placement.specs.Asking.{CanWrite, NewKey}
 
 -- ---- the slot for a new key
 
--- the lookup key, from the hash
+-- the segment and the lookup key, from the hash
+pub segment-made : (st : Settings) (key : List ℕ) {h s : ℕ} → h ≡ xxh64 key → s ≡ segmentOfHash st h → s ≡ segmentOf st key
+unfolding segmentOf
+segment-made st key eh es = es ∙ ap (segmentOfHash st) eh
+
 pub lookup-made : (st : Settings) (key : List ℕ) {h lookup : ℕ} → h ≡ xxh64 key → lookup ≡ lookupOfHash st h → lookup ≡ lookupKey st key
 unfolding lookupKey
 lookup-made st key eh el = el ∙ ap (lookupOfHash st) eh
 
-pub firstEmpty-lt : {z : Shape} {len : ℕ} → Framed z len → (img : List ℕ) (t : ℕ) (key : List ℕ) → firstEmpty z img t key < z .settings .slots
+pub firstEmpty-lt : {z : Shape} {len : ℕ} → Framed z len → (img : List ℕ) (t : ℕ) (key : List ℕ) → firstEmpty z img key t < z .settings .slots
 firstEmpty-lt {z} fr img t key = room-lt (slotsOf z t) _ (start-lt (fr .valid) (lookupKey (z .settings) key)) img
 
-module _ (z : Shape) (img key : List ℕ) (lookup t : ℕ) (new : NewKey z img key lookup t) where
-  sought-new : soughtIn z img key t ≡ Empty (firstEmpty z img t key)
+module _ (z : Shape) (img key : List ℕ) (lookup t : ℕ) {slot : NewSlot} (new : NewKey z img key lookup t slot) where
+  sought-new : soughtIn z img key t ≡ Empty (firstEmpty z img key t)
   sought-new = sought-absent z img (new .seeks .tier .framed) key t (new .seeks .tier .tierIn) (new .takes .someEmpty) (new .takes .lacks)
 
   module _ (r : Sought) (e : r ≡ soughtIn z img key t) (j : ℕ) where
     -- the search ends at the first empty slot, and at no other kind
-    pub new-empty : r ≡ Empty j → j ≡ firstEmpty z img t key
-    new-empty q = let f : Empty j ≡ Empty (firstEmpty z img t key) = sym q ∙ e ∙ sought-new in cc
+    pub new-empty : r ≡ Empty j → j ≡ firstEmpty z img key t
+    new-empty q = let f : Empty j ≡ Empty (firstEmpty z img key t) = sym q ∙ e ∙ sought-new in cc
 
-    pub new-holds : r ≡ Holds j → j ≡ firstEmpty z img t key
+    pub new-holds : r ≡ Holds j → j ≡ firstEmpty z img key t
     new-holds q =
-        let f : Holds j ≡ Empty (firstEmpty z img t key) = sym q ∙ e ∙ sought-new in
+        let f : Holds j ≡ Empty (firstEmpty z img key t) = sym q ∙ e ∙ sought-new in
         absurd (let never : _≡_ {A = ℕ} 0 1 = cc in omega arith)
 
 -- ---- the run
@@ -104,7 +109,7 @@ module _ {z : Shape} {img : List ℕ} {t c : ℕ} {key value : List ℕ} (w : Ca
       )
 
   -- writing it moves no slot, and so not the first empty one
-  pub firstEmpty-written : firstEmpty z (written z img t c key value) t key ≡ firstEmpty z img t key
+  pub firstEmpty-written : firstEmpty z (written z img t c key value) key t ≡ firstEmpty z img key t
   unfolding written
   firstEmpty-written =
       room-same (slotsOf z t) _ (start-lt (framed .valid) (lookupKey settings key)) _ img
@@ -122,11 +127,11 @@ module _ (z : Shape) (img : List ℕ) (t c : ℕ) (key value : List ℕ) where
       e₂ ∙ ap₂ (λ (x : List ℕ) (k : ℕ). sets x k (entryBytes settings key value)) (e₁ ∙ ap (λ (m : ℕ). putMarks z img t c m 1) en) ea
 
   pub placed-is : {lookup j v : ℕ} {one two : List ℕ} → CanWrite z img t c key value → lookup ≡ lookupKey settings key
-      → j ≡ firstEmpty z img t key → one ≡ written z img t c key value → v ≡ slotWith settings lookup c
+      → j ≡ firstEmpty z img key t → one ≡ written z img t c key value → v ≡ slotWith settings lookup c
       → two ≡ put z one (tier t (slot j)) v → two ≡ placeAt z img t c key value
   unfolding placeAt slotted
   placed-is {lookup} {j} {v} {one} w el ej e₁ ev e₂ =
-      let slot-is : j ≡ firstEmpty z (written z img t c key value) t key = ej ∙ sym (firstEmpty-written w) in
+      let slot-is : j ≡ firstEmpty z (written z img t c key value) key t = ej ∙ sym (firstEmpty-written w) in
       let number-is : v ≡ slotWith settings (lookupKey settings key) c = ev ∙ ap (λ (x : ℕ). slotWith settings x c) el in
       e₂ ∙ ap (λ (x : List ℕ). put z x (tier t (slot j)) v) e₁
       ∙ ap₂ (λ (k x : ℕ). put z (written z img t c key value) (tier t (slot k)) x) slot-is number-is

@@ -1,3 +1,5 @@
 pub mod Runs
 pub mod Placement
+pub mod OldEntry
 pub mod Asking
+pub mod Walking

@@ -6,10 +6,9 @@ use lib.ListN.{length}
 use lib.Seq.{sets}
 use Rattle.layout.specs.declared.Shape.{Shape}
 use Rattle.layout.specs.Places.{put, tier, slot, putMarks, chunkAt}
-use Rattle.probe.specs.Search.{room}
-use Rattle.entries.specs.Keys.{lookupKey, start, slotWith}
+use Rattle.entries.specs.Keys.{lookupKey, slotWith}
 use Rattle.entries.specs.Stored.{entryBytes, chunksFor}
-use Rattle.search.specs.Search.{slotsOf}
+use Rattle.search.specs.Search.{firstEmpty}
 
 module _ (z : Shape) where
   open Shape z using (settings)
@@ -19,13 +18,9 @@ module _ (z : Shape) where
   written img t c key value =
       sets (putMarks z img t c (chunksFor settings (length key) (length value)) 1) (chunkAt z t c) (entryBytes settings key value)
 
-  -- the first empty slot of tier t from the key's start slot on
-  abbrev pub firstEmpty : List ℕ → ℕ → List ℕ → ℕ
-  firstEmpty img t key = room (slotsOf z t) img (start settings (lookupKey settings key))
-
   -- the slot filled
   unfoldable pub slotted : List ℕ → ℕ → ℕ → List ℕ → List ℕ
-  slotted img t c key = put z img (tier t (slot (firstEmpty img t key))) (slotWith settings (lookupKey settings key) c)
+  slotted img t c key = put z img (tier t (slot (firstEmpty z img key t))) (slotWith settings (lookupKey settings key) c)
 
   -- the entry goes to tier t, in the chunks from c on
   unfoldable pub placeAt : List ℕ → ℕ → ℕ → List ℕ → List ℕ → List ℕ

@@ -1,4 +1,5 @@
 // An entry placed: its chunks are marked, its bytes written there, the first empty slot from its start slot filled.
+use super::NewSlot;
 use layout::Shape;
 use search::Sought;
 use settings::Settings;
@@ -7,14 +8,18 @@ ghost use Prim.Native.Nat.{_+_, _≤_};
 ghost use lib.ListN.{length};
 ghost use lib.Seq.{sets};
 ghost use Rattle.entries.specs.Stored.{entryBytes};
-ghost use Rattle.placement.specs.Placement.{written, placeAt, firstEmpty};
+ghost use Rattle.search.specs.Search.{firstEmpty};
+ghost use Rattle.placement.specs.Placement.{written, placeAt};
 ghost use Rattle.placement.specs.Asking.{CanWrite, NewKey, CanPlace};
 
-// The slot for a new key: the empty slot that ends the search for it.
-fn slot_for(z: Shape, img: &[u8], key: &[u8], lookup: u64, t: usize) -> usize
-    requires { ⌜ NewKey z (now img) (now key) lookup t ⌝ }
-    ensures { λ r. ⌜ r ≡ firstEmpty z (now (img .entry)) t (now (key .entry)) ⌝ }
+// The slot for a new key: the empty slot that ends the search for it. Where that is known the tier is not searched again.
+fn slot_for(z: Shape, img: &[u8], key: &[u8], lookup: u64, t: usize, slot: NewSlot) -> usize
+    requires { ⌜ NewKey z (now img) (now key) lookup t slot ⌝ }
+    ensures { λ r. ⌜ r ≡ firstEmpty z (now (img .entry)) (now (key .entry)) t ⌝ }
 {
+    if let NewSlot::Known(j) = slot {
+        return j;
+    }
     match search::seek(z, img, key, lookup, t) {
         Sought::Empty(j) => j,
         // never: the key is new
@@ -57,13 +62,21 @@ fn write_at(z: Shape, img: &mut [u8], t: usize, c: usize, key: &[u8], value: &[u
 }
 
 // Places an entry in tier t, in the chunks from c on.
-pub fn place_at(z: Shape, img: &mut [u8], t: usize, c: usize, key: &[u8], value: &[u8])
-    requires { ⌜ CanPlace z (now img) t c (now key) (now value) ⌝ }
+pub fn place_at(
+    z: Shape,
+    img: &mut [u8],
+    t: usize,
+    c: usize,
+    slot: NewSlot,
+    key: &[u8],
+    value: &[u8],
+)
+    requires { ⌜ CanPlace z (now img) t c slot (now key) (now value) ⌝ }
     ensures { λ r. ⌜ now (img .exit) ≡ placeAt z (now (img .entry)) t c (now (key .entry)) (now (value .entry)) ⌝ }
 {
     let lookup = entries::keys::lookup_of_hash(z.settings, xxh64::xxh64(key));
     // before the write: until then every stored key reads as it did
-    let j = slot_for(z, img, key, lookup, t);
+    let j = slot_for(z, img, key, lookup, t, slot);
     write_at(z, img, t, c, key, value);
     let v = entries::keys::slot_with(z.settings, lookup, c);
     layout::write::put_slot(z, img, t, j, v);

@@ -4,9 +4,8 @@ use super::Run;
 use layout::Shape;
 ghost use mathlib.Core.Path.{_≡_};
 ghost use Rattle.layout.specs.FramedTier.{FramedTier};
-ghost use Rattle.chains.specs.Chains.{chain};
 ghost use Rattle.chunks.specs.Chunks.{LowMarkFits};
-ghost use Rattle.placement.specs.Asking.{CanTest, NoneClearBelow, CanScan, CanScanChain};
+ghost use Rattle.placement.specs.Asking.{CanTest, NoneClearBelow, CanScan, tiersFrom, CanScanRest};
 ghost use Rattle.placement.specs.Runs.{fromLowest, lowestRun, runIn, firstRun, fullBut, clearBut};
 
 // Whether chunk i of tier t is clear.
@@ -76,7 +75,7 @@ fn lowest_run(z: Shape, img: &[u8], old: Old, t: usize, n: usize) -> Run
 }
 
 // The run in tier t, unless too many of its slots are full.
-fn run_in(z: Shape, img: &[u8], old: Old, t: usize, n: usize) -> Run
+pub fn run_in(z: Shape, img: &[u8], old: Old, t: usize, n: usize) -> Run
     requires { ⌜ CanScan z (now img) old t n ⌝ }
     ensures { λ r. ⌜ r ≡ runIn z (fullBut z (now (img .entry)) old) (clearBut z (now (img .entry)) old) t n ⌝ }
 {
@@ -87,14 +86,15 @@ fn run_in(z: Shape, img: &[u8], old: Old, t: usize, n: usize) -> Run
     lowest_run(z, img, old, t, n)
 }
 
-// Of the tiers of segment s's chain, the first that takes an entry of n chunks.
-pub fn first_run(z: Shape, img: &[u8], old: Old, s: usize, n: usize) -> Run
-    requires { ⌜ CanScanChain z (now img) old s n ⌝ }
-    ensures { λ r. ⌜ r ≡ firstRun z (fullBut z (now (img .entry)) old) (clearBut z (now (img .entry)) old) (chain z (now (img .entry)) s) n ⌝ }
+// Of the tiers from the old entry's on, after those that were passed, the first that takes an entry of n chunks.
+pub fn first_run(z: Shape, img: &[u8], old: Old, passed: usize, n: usize) -> Run
+    requires { ⌜ CanScanRest z (now img) old passed n ⌝ }
+    ensures { λ r. ⌜ r ≡ firstRun z (fullBut z (now (img .entry)) old) (clearBut z (now (img .entry)) old)
+        (tiersFrom z (now (img .entry)) (old .tier) passed) n ⌝ }
 {
     let most = layout::tier_count(z);
-    let mut t = s + 1;
-    let mut k = 0;
+    let mut t = old.tier;
+    let mut k = passed;
     while k < most {
         if t == 0 {
             return Run::Nowhere;

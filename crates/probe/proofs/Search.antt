@@ -76,6 +76,26 @@ module _ (C : ℕ) (stop stop′ : ℕ → Bool) (same : (k : ℕ) → k < C →
       probe-goes C stop (suc n) n i refl t ∙ probe-same n (next C i) (next-lt C h)
       ∙ sym (probe-goes C stop′ (suc n) n i refl (sym (same i h) ∙ t)))
 
+-- a search that stops at more slots than another, and ends at one at which the other stops, ends where the other does
+module _ (C : ℕ) (stop stop′ : ℕ → Bool) (more : (k : ℕ) → stop′ k ≡ true → stop k ≡ true) where
+  pub probe-fewer : (n i : ℕ) → stop′ (probe C stop n i) ≡ true → probe C stop n i ≡ probe C stop′ n i
+  probe-fewer zero i e = probe-out C stop zero i (omega arith) ∙ sym (probe-out C stop′ zero i (omega arith))
+  probe-fewer (suc n) i e =
+      by-test (stop i)
+      (λ t.
+      let here : probe C stop (suc n) i ≡ i = probe-stops C stop (suc n) i t in
+      here ∙ sym (probe-stops C stop′ (suc n) i (rw here at e)))
+      (λ t.
+      let on : probe C stop (suc n) i ≡ probe C stop n (next C i) = probe-goes C stop (suc n) n i refl t in
+      let t′ : stop′ i ≡ false = by-test (stop′ i) (λ s. absurd (true≢false (sym (more i s) ∙ t))) (λ s. s) in
+      on ∙ probe-fewer n (next C i) (rw on at e) ∙ sym (probe-goes C stop′ (suc n) n i refl t′))
+
+-- a search that ends at an empty slot ends at the first
+pub seek-empty-room : {M : Type 0} (𝓣 : Table M) (i : ℕ) (hit : ℕ → Bool) (m : M) → 𝓣 .get m (seek 𝓣 hit m i) ≡ 0
+    → seek 𝓣 hit m i ≡ room 𝓣 m i
+unfolding seek room
+seek-empty-room 𝓣 i hit m e = probe-fewer (𝓣 .size) (ends 𝓣 hit m) (empty 𝓣 m) (λ k t. rw t) (𝓣 .size) i (eq-eqb _ _ e)
+
 module _ {M : Type 0} (𝓣 : Table M) (i : ℕ) (hi : i < 𝓣 .size) where
   open Table 𝓣 using (size, get)
 
@@ -84,7 +104,8 @@ module _ {M : Type 0} (𝓣 : Table M) (i : ℕ) (hi : i < 𝓣 .size) where
   room-lt m = probe-lt size (empty 𝓣 m) size i hi
 
   -- the search for a number that is in no slot ends at the first empty slot
-  pub seek-room : (hit : ℕ → Bool) (m : M) → ((k : ℕ) → k < size → get m k ≢ 0 → hit (get m k) ≡ false) → seek 𝓣 hit m i ≡ room 𝓣 m i
+  pub seek-room : (hit : ℕ → Bool) (m : M) → ((k : ℕ) → k < size → get m k ≢ 0 → hit (get m k) ≡ false)
+      → seek 𝓣 hit m i ≡ room 𝓣 m i
   unfolding seek room
   seek-room hit m miss =
       probe-same size (ends 𝓣 hit m) (empty 𝓣 m)
@@ -119,7 +140,8 @@ module _ {M : Type 0} (𝓣 : Table M) (law : Lawful 𝓣) (m : M) (i e : ℕ) (
     seek-hit ne = let s : _ = seek-first .stops in rw (ne-eqb _ _ ne) at s
 
     -- in a good table the search from its start comes to a number that is meant if there is one, and so ends empty only if there is none
-    pub seek-finds : Good 𝓣 m → (j : ℕ) → j < size → get m j ≢ 0 → start (get m j) ≡ i → hit (get m j) ≡ true → get m (seek 𝓣 hit m i) ≢ 0
+    pub seek-finds : Good 𝓣 m → (j : ℕ) → j < size → get m j ≢ 0 → start (get m j) ≡ i → hit (get m j) ≡ true
+        → get m (seek 𝓣 hit m i) ≢ 0
     seek-finds good j hj fj hm ht =
         ⊎-elim
         (λ (l : dist size i j < dist size i (seek 𝓣 hit m i)).

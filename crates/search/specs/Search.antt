@@ -10,7 +10,7 @@ use Rattle.layout.specs.Tiers.{IsTier}
 use Rattle.layout.specs.Places.{get, put, tier, slot}
 use Rattle.chains.specs.Chains.{chain}
 use Rattle.probe.specs.Table.{Table}
-use Rattle.probe.specs.Search.{seek}
+use Rattle.probe.specs.Search.{seek, room}
 use Rattle.search.specs.declared.Sought.{Sought}
 use Rattle.search.specs.declared.Sought.the-variants.{Holds, Empty}
 use Rattle.search.specs.declared.Found.{Found}
@@ -44,6 +44,10 @@ module _ (z : Shape) (img key : List ℕ) where
   -- at its start slot, which holds another key.
   unfoldable pub soughtIn : ℕ → Sought
   soughtIn t = elim (eqb (slotAt z img t (seekIn t)) 0) [ true ↦ Empty (seekIn t) | false ↦ Holds (seekIn t) ]
+
+  -- the first empty slot of tier t from the key's start slot on
+  abbrev pub firstEmpty : ℕ → ℕ
+  firstEmpty t = room (slotsOf z t) img (start settings (lookupKey settings key))
 
   -- the tiers that are left, after a search that ended empty at slot j of tier u
   unfoldable pub searchFrom : ℕ → ℕ → List ℕ → Found

@@ -53,10 +53,13 @@ impl<'a> Pair<'a> {
         Ok(ours)
     }
 
-    pub fn lookup(&mut self, key: &[u8]) -> Outcome<(u32, [u64; 2])> {
+    pub fn lookup(&mut self, key: &[u8]) -> Outcome<(u32, [u64; 4])> {
         let ours = reference::lookup(&self.block, &self.ours, key);
         let theirs = subject::lookup(&self.block, self.their_image(), key);
         same(&format!("lookup of {}", short(key)), ours, theirs)?;
+        if ours.0 > 1 && ours.1 != [0; 4] {
+            return Err(format!("lookup: {ours:?}, but a refusal has zeros"));
+        }
         self.settle(1, ours.0)?;
         Ok(ours)
     }

@@ -11,6 +11,7 @@ use crate::low_marks::Edit;
 use crate::oracle::Oracle;
 use crate::plan::{Plan, length_size};
 use crate::rng::Rng;
+use crate::search_ends::Search;
 
 pub struct History<'a, 'b> {
     pub rng: &'a mut Rng,
@@ -57,7 +58,8 @@ impl History<'_, '_> {
     }
 
     fn lookup_of(&mut self, key: &[u8]) -> Outcome<()> {
-        let (number, [offset, length]) = self.pair.lookup(key)?;
+        let (number, place) = self.pair.lookup(key)?;
+        let [offset, length, _, _] = place;
         let refused = self.plan.offered_number(key.len(), None);
         let record = self.records.get(key);
         let absent = if record.is_some() { 0 } else { 1 };
@@ -66,15 +68,33 @@ impl History<'_, '_> {
             number,
             if refused != 0 { refused } else { absent },
         )?;
+        let record = record.cloned();
+        self.search_end(key, number, place)?;
         let Some(record) = record else {
             return Ok(());
         };
         let (start, end) = (offset as usize, (offset + length) as usize);
-        if self.pair.image().get(start..end) != Some(record) {
+        if self.pair.image().get(start..end) != Some(&record) {
             return Err(format!(
                 "lookup: {length} bytes at {offset} are not the record"
             ));
         }
+        Ok(())
+    }
+
+    /// The tier and slot of a lookup that is not refused.
+    fn search_end(&mut self, key: &[u8], number: u32, place: [u64; 4]) -> Outcome<()> {
+        let search = Search {
+            plan: self.plan,
+            image: self.pair.image(),
+            key,
+        };
+        let events = match number {
+            0 => search.is_at(place, head(key.len(), place[1] as usize))?,
+            1 => search.ends_at(place)?,
+            _ => return Ok(()),
+        };
+        events.into_iter().for_each(|event| self.pair.met(event));
         Ok(())
     }
 
@@ -116,12 +136,21 @@ impl History<'_, '_> {
     }
 
     fn stands_at(&mut self, key: &[u8], value: &[u8], place: (usize, usize)) -> Outcome<()> {
-        let before = length_size(key.len()) + key.len() + length_size(value.len());
-        let expected = self.plan.chunk(place.0, place.1) + before;
-        let (_, [offset, _]) = self.pair.lookup(key)?;
+        let expected = self.plan.chunk(place.0, place.1) + head(key.len(), value.len());
+        let (_, [offset, _, tier, slot]) = self.pair.lookup(key)?;
         if offset as usize != expected {
             return Err(format!("store: record at {offset}, meant was {expected}"));
         }
+        if self.records.contains_key(key) {
+            return Ok(());
+        }
+        let search = Search {
+            plan: self.plan,
+            image: self.pair.before(),
+            key,
+        };
+        let events = search.stored_at(tier as usize, slot as usize)?;
+        events.into_iter().for_each(|event| self.pair.met(event));
         Ok(())
     }
 
@@ -222,4 +251,9 @@ impl History<'_, '_> {
     fn most_calls(&self) -> usize {
         (4_000_000 / (self.pair.image().len() + 1)).clamp(4, 400)
     }
+}
+
+/// How many bytes of an entry come before its record.
+fn head(key: usize, value: usize) -> usize {
+    length_size(key) + key + length_size(value)
 }

@@ -2,6 +2,7 @@
 //! chunk, and looked at after each edit, tier by tier.
 
 use crate::compare::Outcome;
+use crate::oracle::Oracle;
 use crate::plan::Plan;
 use crate::render::get;
 use crate::rng::Rng;
@@ -93,14 +94,11 @@ impl Edit<'_> {
 
     /// The chain of the key's segment before the edit.
     fn chain(&self) -> Vec<usize> {
-        let mut chain = Vec::new();
-        let mut tier = self.segment + 1;
-        while tier != 0 {
-            chain.push(tier);
-            let (at, width) = self.plan.next_field(tier);
-            tier = get(self.before, at, width) as usize;
-        }
-        chain
+        let oracle = Oracle {
+            plan: self.plan,
+            image: self.before,
+        };
+        oracle.chain(self.segment)
     }
 
     fn field(&self, image: &[u8], tier: usize) -> u64 {

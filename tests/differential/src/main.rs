@@ -19,6 +19,7 @@ mod oracle;
 mod plan;
 mod render;
 mod rng;
+mod search_ends;
 mod settings;
 mod subject;
 mod tally;

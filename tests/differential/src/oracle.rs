@@ -11,16 +11,25 @@ pub struct Oracle<'a> {
 }
 
 impl Oracle<'_> {
+    /// The tiers of a segment, in chain order.
+    pub fn chain(&self, segment: usize) -> Vec<usize> {
+        let mut chain = Vec::new();
+        let mut tier = segment + 1;
+        while tier != 0 {
+            chain.push(tier);
+            let (at, width) = self.plan.next_field(tier);
+            tier = get(self.image, at, width) as usize;
+        }
+        chain
+    }
+
     /// Tier and first chunk of a new entry, with the old one of its key
     /// (which covers `old_chunks`) taken out. None: nothing has room.
     pub fn place(&self, key: &[u8], chunks: usize, old_chunks: usize) -> Option<(usize, usize)> {
-        let mut tier = self.plan.parts(key).0 + 1;
-        while tier != 0 {
+        for tier in self.chain(self.plan.parts(key).0) {
             if let Some(first_chunk) = self.room(tier, key, chunks, old_chunks) {
                 return Some((tier, first_chunk));
             }
-            let (at, width) = self.plan.next_field(tier);
-            tier = get(self.image, at, width) as usize;
         }
         match get(self.image, self.plan.global_state + 11, 5) {
             0 => None,

@@ -20,8 +20,8 @@ mod library {
         (ffi::check(block, image, &mut counts), counts)
     }
 
-    pub fn lookup(block: &[u8], image: &[u8], key: &[u8]) -> (u32, [u64; 2]) {
-        let mut place = [UNWRITTEN; 2];
+    pub fn lookup(block: &[u8], image: &[u8], key: &[u8]) -> (u32, [u64; 4]) {
+        let mut place = [UNWRITTEN; 4];
         (ffi::lookup(block, image, key, &mut place), place)
     }
 

@@ -8,6 +8,7 @@ use crate::damage::DAMAGES;
 use crate::defects::DEFECTS;
 use crate::lengths;
 use crate::low_marks;
+use crate::search_ends;
 
 /// The calls, and the numbers that each may answer.
 pub const CALLS: [(&str, &[u32]); 7] = [
@@ -28,8 +29,8 @@ pub struct Tally {
     pub hashes: u64,
     /// How often each planned fault was made.
     pub faults: BTreeMap<&'static str, u64>,
-    /// How often what is planned for lengths, low marks and the pair calls
-    /// came up.
+    /// How often what is planned for lengths, low marks, searches and the
+    /// pair calls came up.
     pub met: BTreeMap<String, u64>,
 }
 
@@ -57,7 +58,8 @@ impl Tally {
         let planned = channels::planned().into_iter();
         let planned = planned
             .chain(lengths::planned())
-            .chain(low_marks::planned());
+            .chain(low_marks::planned())
+            .chain(search_ends::planned());
         let planned = planned.filter(|name| !self.met.contains_key(name));
         numbers
             .chain(faults.map(str::to_string))

@@ -5,6 +5,7 @@ use crate::bytes::all_zero;
 use crate::chains::Chains;
 use crate::frame::Frame;
 use crate::record::Entry;
+use crate::search::SlotEnd;
 use crate::settings::Settings;
 use crate::tier::Tier;
 use crate::{Answer, number};
@@ -133,11 +134,12 @@ impl<'a> Check<'a> {
         if !holds {
             return None;
         }
-        let find = |tier, stop| settings.find(self.image, tier, lookup_key, entry.key, stop);
-        let once = find(tier, place).is_none()
-            && earlier
-                .iter()
-                .all(|tier| find(tier, settings.slots).is_none());
+        let lacks_key = |tier, stop| {
+            let end = settings.find(self.image, tier, lookup_key, entry.key, stop);
+            matches!(end, SlotEnd::Empty { .. })
+        };
+        let once =
+            lacks_key(tier, place) && earlier.iter().all(|tier| lacks_key(tier, settings.slots));
         once.then_some(entry)
     }
 

@@ -4,7 +4,7 @@
 use crate::bits::{BitSet, set_marks};
 use crate::check::{Accepted, accept};
 use crate::record::{check_key, write_entry};
-use crate::search::Found;
+use crate::search::{Found, SlotEnd};
 use crate::slot::HashParts;
 use crate::tier::Tier;
 use crate::{Answer, number};
@@ -39,7 +39,8 @@ pub fn remove(block: &[u8], image: &mut [u8], key: &[u8]) -> Answer<()> {
     let map = accept(block, image)?;
     check_key(key)?;
     let parts = map.frame.settings.hash_parts(key);
-    let old = map.find(image, parts, key).ok_or(number::ABSENT)?.into();
+    let found = map.find(image, parts, key).map_err(|_| number::ABSENT)?;
+    let old = Old::from(found);
     map.take_out(image, old);
     Ok(())
 }
@@ -50,7 +51,7 @@ pub fn store(block: &[u8], image: &mut [u8], key: &[u8], value: &[u8]) -> Answer
     let settings = &map.frame.settings;
     let needed = settings.chunks_needed(key, value)?;
     let parts = settings.hash_parts(key);
-    let old: Option<Old> = map.find(image, parts, key).map(Old::from);
+    let old = map.find(image, parts, key).ok().map(Old::from);
     let room = map
         .room(image, parts.segment, needed, old)
         .ok_or(number::FULL)?;
@@ -66,7 +67,7 @@ pub fn store(block: &[u8], image: &mut [u8], key: &[u8], value: &[u8]) -> Answer
     };
     let start = tier.space + first_chunk * settings.chunk_size;
     write_entry(&mut image[start..], key, value);
-    map.put_in(image, &tier, parts, first_chunk, needed);
+    map.put_in(image, &tier, parts, key, first_chunk, needed);
     Ok(())
 }
 
@@ -139,13 +140,22 @@ impl Accepted {
         tier.set_entry_count(image, 0);
     }
 
-    /// Fills the first empty slot from the start, and marks the chunks.
-    fn put_in(&self, image: &mut [u8], tier: &Tier, parts: HashParts, first: usize, count: usize) {
+    /// Fills the empty slot that ends the search for the key, and marks the
+    /// chunks.
+    fn put_in(
+        &self,
+        image: &mut [u8],
+        tier: &Tier,
+        parts: HashParts,
+        key: &[u8],
+        first: usize,
+        count: usize,
+    ) {
         let settings = &self.frame.settings;
-        let mut place = settings.start_slot(parts.lookup_key);
-        while settings.slot_at(image, tier, place) != 0 {
-            place = settings.next_slot(place);
-        }
+        let end = settings.find(image, tier, parts.lookup_key, key, settings.slots);
+        let SlotEnd::Empty { place } = end else {
+            unreachable!("an old entry of the key has been taken out");
+        };
         let slot = settings.join_slot(parts.lookup_key, first);
         settings.set_slot(image, tier, place, slot);
         set_marks(image, tier, first, count, true);

@@ -50,9 +50,11 @@ pub fn check(block: &[u8], image: &[u8]) -> (u32, [u64; 4]) {
     numbers(check::accept(block, image).map(|map| map.counts))
 }
 
-/// Offset and length of the record under `key`.
-pub fn lookup(block: &[u8], image: &[u8], key: &[u8]) -> (u32, [u64; 2]) {
-    numbers(search::record_of(block, image, key))
+/// Offset and length of the record under `key`, tier and slot of its entry.
+/// An absent key has offset and length 0, and tier and slot say where the
+/// search ended.
+pub fn lookup(block: &[u8], image: &[u8], key: &[u8]) -> (u32, [u64; 4]) {
+    search::lookup(block, image, key).unwrap_or_else(|number| (number, [0; 4]))
 }
 
 /// Puts `value` under `key`, in place of an earlier record.

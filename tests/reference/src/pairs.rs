@@ -46,8 +46,8 @@ fn check_delay(delay: i32) -> Answer<i32> {
 pub fn ask(block: &[u8], image: &[u8], a: u32, b: u32) -> Answer<i32> {
     accept(block, image)?;
     let pair = Pair::of(a, b)?;
-    let [start, length] = search::record_of(block, image, &pair.key)?;
-    let record = &image[start as usize..(start + length) as usize];
+    let found = search::find(block, image, &pair.key)?.map_err(|_| number::ABSENT)?;
+    let record = &image[found.entry.value_at..][..found.entry.value_length];
     let bytes = record.try_into().map_err(|_| number::DELAY)?;
     let delay = check_delay(i32::from_le_bytes(bytes))?;
     Ok(pair.turn(delay))

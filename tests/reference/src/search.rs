@@ -7,6 +7,15 @@ use crate::slot::HashParts;
 use crate::tier::Tier;
 use crate::{Answer, number};
 
+/// The slot that ended the search of a tier for a key.
+#[derive(Clone, Copy, Debug)]
+pub enum SlotEnd {
+    /// The key's slot, and the number in it.
+    Key { place: usize, slot: u64 },
+    /// The first empty slot from the key's start: the tier lacks the key.
+    Empty { place: usize },
+}
+
 /// Where an entry stands: its tier, its slot and its chunks.
 #[derive(Clone, Copy, Debug)]
 pub struct Found<'a> {
@@ -15,10 +24,18 @@ pub struct Found<'a> {
     pub entry: Entry<'a>,
 }
 
+/// Where the search for an absent key ended. All tiers of the chain are
+/// searched, so the tier is the last of them.
+#[derive(Clone, Copy, Debug)]
+pub struct Absent {
+    pub tier: Tier,
+    pub slot: usize,
+}
+
 impl Settings {
-    /// The slot of a key in a tier, and the slot's number: searched upward
-    /// from its start to an empty slot or to `stop`. One of both must come,
-    /// and the slots before it must have been checked.
+    /// Searches a tier for a key, upward from its start slot, wrapping. The
+    /// slot `stop` counts as empty. It or an empty slot must come, and the
+    /// slots before must have been checked.
     pub fn find(
         &self,
         image: &[u8],
@@ -26,7 +43,7 @@ impl Settings {
         lookup_key: u64,
         key: &[u8],
         stop: usize,
-    ) -> Option<(usize, u64)> {
+    ) -> SlotEnd {
         let mut place = self.start_slot(lookup_key);
         while place != stop {
             let slot = self.slot_at(image, tier, place);
@@ -36,24 +53,32 @@ impl Settings {
             if self.lookup_key(slot) == lookup_key
                 && self.has_key(image, tier, self.first_chunk(slot), key)
             {
-                return Some((place, slot));
+                return SlotEnd::Key { place, slot };
             }
             place = self.next_slot(place);
         }
-        None
+        SlotEnd::Empty { place }
     }
 }
 
 impl Accepted {
-    /// The entry of a key, from whichever tier of its chain has it.
-    pub fn find<'a>(&self, image: &'a [u8], parts: HashParts, key: &[u8]) -> Option<Found<'a>> {
+    /// The entry of a key, from whichever tier of its chain has it, or where
+    /// the search for it ended.
+    pub fn find<'a>(
+        &self,
+        image: &'a [u8],
+        parts: HashParts,
+        key: &[u8],
+    ) -> Result<Found<'a>, Absent> {
         let settings = &self.frame.settings;
-        let mut tiers = self.chain(parts.segment);
-        tiers.find_map(|tier| {
-            let (place, slot) =
-                settings.find(image, &tier, parts.lookup_key, key, settings.slots)?;
-            self.found(image, tier, place, slot)
-        })
+        let mut absent = None;
+        for tier in self.chain(parts.segment) {
+            match settings.find(image, &tier, parts.lookup_key, key, settings.slots) {
+                SlotEnd::Key { place, slot } => return Ok(self.found(image, tier, place, slot)),
+                SlotEnd::Empty { place } => absent = Some(Absent { tier, slot: place }),
+            }
+        }
+        Err(absent.expect("every chain has its main tier"))
     }
 
     pub fn chain(&self, segment: usize) -> impl DoubleEndedIterator<Item = Tier> {
@@ -61,30 +86,41 @@ impl Accepted {
         indexes.map(|&index| self.frame.tier(index as usize))
     }
 
-    fn found<'a>(&self, image: &'a [u8], tier: Tier, place: usize, slot: u64) -> Option<Found<'a>> {
+    fn found<'a>(&self, image: &'a [u8], tier: Tier, place: usize, slot: u64) -> Found<'a> {
         let settings = &self.frame.settings;
-        let entry = settings.entry_at(image, &tier, settings.first_chunk(slot))?;
-        Some(Found {
+        let entry = settings.entry_at(image, &tier, settings.first_chunk(slot));
+        Found {
             tier,
             slot: place,
-            entry,
-        })
+            entry: entry.expect("the check has passed every entry"),
+        }
     }
 
     fn nth_in_tier<'a>(&self, image: &'a [u8], tier: Tier, n: usize) -> Option<Found<'a>> {
         let settings = &self.frame.settings;
         let slots = (0..settings.slots).map(|place| (place, settings.slot_at(image, &tier, place)));
         let (place, slot) = slots.filter(|(_, slot)| *slot != 0).nth(n)?;
-        self.found(image, tier, place, slot)
+        Some(self.found(image, tier, place, slot))
     }
 }
 
-pub fn record_of(block: &[u8], image: &[u8], key: &[u8]) -> Answer<[u64; 2]> {
+/// A number is the outer failure, an absent key the inner one.
+pub fn find<'a>(block: &[u8], image: &'a [u8], key: &[u8]) -> Answer<Result<Found<'a>, Absent>> {
     let map = accept(block, image)?;
     check_key(key)?;
     let parts = map.frame.settings.hash_parts(key);
-    let entry = map.find(image, parts, key).ok_or(number::ABSENT)?.entry;
-    Ok([entry.value_at as u64, entry.value_length as u64])
+    Ok(map.find(image, parts, key))
+}
+
+/// An absent key is no failure here, since it has a tier and a slot.
+pub fn lookup(block: &[u8], image: &[u8], key: &[u8]) -> Answer<(u32, [u64; 4])> {
+    let (number, numbers) = match find(block, image, key)? {
+        Ok(Found { tier, slot, entry }) => {
+            (0, [entry.value_at, entry.value_length, tier.index, slot])
+        }
+        Err(Absent { tier, slot }) => (number::ABSENT, [0, 0, tier.index, slot]),
+    };
+    Ok((number, numbers.map(|number| number as u64)))
 }
 
 /// The entry counts of an accepted image are right, so whole tiers are

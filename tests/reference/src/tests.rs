@@ -3,6 +3,7 @@
 mod hash_vectors;
 mod low_mark;
 mod pairs;
+mod search_end;
 mod worked_store;
 
 use crate::leb128;

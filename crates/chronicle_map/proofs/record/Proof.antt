@@ -7,19 +7,19 @@ use Rattle.chronicle_map.proofs.record.Tie as tie
 lookup-requires : tie.Need-lookup-requires
 lookup-requires c κs = search needs
 
-enum-known-at : tie.Need-enum-known-at
-enum-known-at c = search needs
+enum-known-p : tie.Need-enum-known-p
+enum-known-p c = search needs
 
-add-result : tie.Need-add-result
-add-result c =
-    let at = c .before .at .given in
-    let p = c .before .before .before in let lookup = p .lookup in
+add-to : tie.Need-add-to
+add-to c =
+    let found = c .before .before .p .given in
+    let p = c .before .before .before .before in let lookup = p .lookup in
     let p = p .before .before in let bytes = p .shared-slice-known2 .given in
     let start = p .before .before in
     omega (
       arith,
       record-within (start .args .block .now) (start .args .img .now) (start .args .key .now) (lookup .result) (lookup .ensures)
-          (λ i. omega (arith, bytes i)) (at .0 .0) (at .0 .1 .0) (at .1),
+          (λ i. omega (arith, bytes i)) (found .0 .0) (found .1),
     )
 
 sub-result : tie.Need-sub-result
@@ -30,14 +30,14 @@ part-result-start c = search needs
 
 part-result-end : tie.Need-part-result-end
 part-result-end c =
-    let at = c .before .at .given in
-    let p = c .before .before .before in let lookup = p .lookup in
+    let found = c .before .before .p .given in
+    let p = c .before .before .before .before in let lookup = p .lookup in
     let p = p .before .before in let bytes = p .shared-slice-known2 .given in
     let start = p .before .before in
     omega (
       arith,
       record-within (start .args .block .now) (start .args .img .now) (start .args .key .now) (lookup .result) (lookup .ensures)
-          (λ i. omega (arith, bytes i)) (at .0 .0) (at .0 .1 .0) (at .1),
+          (λ i. omega (arith, bytes i)) (found .0 .0) (found .1),
     )
 
 enum-told : tie.Need-enum-told
@@ -66,18 +66,19 @@ part-result-end-3 c = search needs
 
 returns : tie.Need-returns
 returns c =
-    let p = c .before .before in let at = p .at in
+    let p = c .before .before .before in let found = p .p .given in
     let p = p .before .before in let lookup = p .lookup in
     let start = p .before .before .before .before in
-    record-found (start .args .block .now) (start .args .img) (start .args .key .now) (lookup .result) (lookup .ensures) (at .given .0 .0)
-    (at .given .0 .1 .0) (at .given .1) (c .result .given .0)
+    record-found (start .args .block .now) (start .args .img) (start .args .key .now) (lookup .result) (lookup .ensures) (found .0 .0) (found .1)
+    (c .result .given .0)
 
 returns-2 : tie.Need-returns-2
 returns-2 c =
-    let p = c .before .before .before in let lookup = p .lookup in
+    let p = c .before in let enum-told = p .enum-told in
+    let p = p .before .before in let lookup = p .lookup in
     let start = p .before .before .before .before in
     record-absent (start .args .block .now) (start .args .img) (start .args .key .now) (lookup .result) (lookup .ensures)
-    (c .before .enum-told .given .1) (c .result2 .given .0)
+    (enum-told .given .0 .0) (enum-told .given .1) (c .result2 .given .0)
 
 returns-3 : tie.Need-returns-3
 returns-3 c =
@@ -92,8 +93,8 @@ record-spec =
     tie.close
     (tie.spec
     lookup-requires
-    enum-known-at
-    add-result
+    enum-known-p
+    add-to
     sub-result
     part-result-start
     part-result-end

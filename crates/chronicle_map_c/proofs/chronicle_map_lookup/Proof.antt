@@ -8,11 +8,11 @@ use Rattle.chronicle_map_c.proofs.chronicle_map_lookup.Tie as tie
 lookup-requires : tie.Need-lookup-requires
 lookup-requires c κs = search needs
 
-enum-known-at : tie.Need-enum-known-at
-enum-known-at c = search needs
+enum-known-p : tie.Need-enum-known-p
+enum-known-p c = search needs
 
-enum-told : tie.Need-enum-told
-enum-told c = search needs
+enum-known-e : tie.Need-enum-known-e
+enum-known-e c = search needs
 
 enum-known-stage : tie.Need-enum-known-stage
 enum-known-stage c = search needs
@@ -23,12 +23,12 @@ stage-number-requires c κs = search needs
 returns : tie.Need-returns
 returns c =
     let a = c .before .before in
-    told lookupNumbers (a .at .given .1) (a .before .before .lookup .ensures)
+    told lookupNumbers (a .p .given .1) (a .before .before .lookup .ensures)
 
 returns-2 : tie.Need-returns-2
 returns-2 c =
-    let a = c .before in
-    told lookupNumbers (a .enum-told .given .1) (a .before .before .lookup .ensures)
+    let a = c .before .before in
+    told lookupNumbers (a .e .given .1) (a .before .before .lookup .ensures)
 
 returns-3 : tie.Need-returns-3
 returns-3 c =
@@ -40,8 +40,8 @@ chronicle-map-lookup-spec =
     tie.close
     (tie.spec
     lookup-requires
-    enum-known-at
-    enum-told
+    enum-known-p
+    enum-known-e
     enum-known-stage
     stage-number-requires
     returns

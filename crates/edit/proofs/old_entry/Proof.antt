@@ -1,4 +1,4 @@
-use Rattle.edit.proofs.Replacing.{sound-framed, sound-tiers, old-absent, old-in, old-found, entry-lengths}
+use Rattle.edit.proofs.Replacing.{sound-framed, sound-tiers, old-absent, old-in, old-found}
 use borrow.Author.Needs.{needs}
 use Rattle.edit.proofs.old_entry.Statement.{statement}
 use Rattle.edit.proofs.old_entry.Tie as tie
@@ -17,15 +17,19 @@ enum-known-t c = search needs
 enum-told : tie.Need-enum-told
 enum-told c = search needs
 
+none-requires : tie.Need-none-requires
+none-requires c κs = search needs
+
 returns : tie.Need-returns
 returns c =
-    let p = c .before .before in let the-search = p .search in
+    let p = c .before in let told = p .enum-told in
+    let p = p .before .before in let the-search = p .search in
     let start = p .before .before .before in
     old-absent (start .args .z) (start .args .img .now) (start .pre) (start .args .key .now) (the-search .result) (the-search .ensures)
-    (c .enum-told .given .0 .0) (c .enum-told .given .0 .1 .0) (c .enum-told .given .1)
+    (told .given .0 .0) (told .given .0 .1 .0) (told .given .1) (c .none .ensures)
 
-entry-at-requires : tie.Need-entry-at-requires
-entry-at-requires c κs =
+at-requires : tie.Need-at-requires
+at-requires c κs =
     let p = c .before in let t = p .t in
     let p = p .before .before in let the-search = p .search in
     let start = p .before .before .before in
@@ -34,44 +38,13 @@ entry-at-requires c κs =
     (t .given .0 .0) (t .given .0 .1 .0) (t .given .1) in
     record { tier = record { framed = sound-framed (start .args .z) (start .args .img .now) (start .pre); tierIn = i .0 }; slotIn = i .1 }
 
-chunk-of-requires : tie.Need-chunk-of-requires
-chunk-of-requires c κs =
+returns-2 : tie.Need-returns-2
+returns-2 c =
     let p = c .before .before in let t = p .t in
     let p = p .before .before in let the-search = p .search in
     let start = p .before .before .before in
-    let i =
-    old-in (start .args .z) (start .args .img .now) (start .pre) (start .args .key .now) (the-search .result) (the-search .ensures)
-    (t .given .0 .0) (t .given .0 .1 .0) (t .given .1) in
-    record { tier = record { framed = sound-framed (start .args .z) (start .args .img .now) (start .pre); tierIn = i .0 }; slotIn = i .1 }
-
-chunks-for-requires : tie.Need-chunks-for-requires
-chunks-for-requires c κs =
-    let p = c .before in let entry-at = p .entry-at in
-    let p = p .before .before in let t = p .t in
-    let start = p .before .before .before .before .before in
-    record {
-      valid = start .pre .fits .valid;
-      lengths = entry-lengths (start .args .z) (start .args .img .now) (t .given .0 .0) (t .given .0 .1 .0) (entry-at .result) (entry-at .ensures);
-    }
-
-returns-2 : tie.Need-returns-2
-returns-2 c =
-    let p = c .before .before .before .before in let t = p .t in
-    let p = p .before .before in let the-search = p .search in
-    let start = p .before .before .before in
     old-found (start .args .z) (start .args .img .now) (start .pre) (start .args .key .now) (the-search .result) (the-search .ensures)
-    (t .given .0 .0) (t .given .0 .1 .0) (t .given .1) (c .before .before .entry-at .ensures) (c .before .chunk-of .ensures)
-    (c .chunks-for .ensures)
+    (t .given .0 .0) (t .given .0 .1 .0) (t .given .1) (c .at .ensures)
 
 pub old-entry-spec : {M : Type 1} → statement M
-old-entry-spec =
-    tie.close
-    (tie.spec
-    search-requires
-    enum-known-t
-    enum-told
-    returns
-    entry-at-requires
-    chunk-of-requires
-    chunks-for-requires
-    returns-2)
+old-entry-spec = tie.close (tie.spec search-requires enum-known-t enum-told none-requires returns at-requires returns-2)

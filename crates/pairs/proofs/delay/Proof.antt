@@ -1,3 +1,4 @@
+use mathlib.Core.Path.{refl}
 use native.Mathlib.Omega.{arith}
 use borrow.Author.Tests.{not-true, not-false}
 use Rattle.lists.proofs.Decides.{decided-true, decided-false}
@@ -54,21 +55,18 @@ enum-known-stage c = search needs
 enum-told-2 : tie.Need-enum-told-2
 enum-told-2 c = search needs
 
-enum-known-at : tie.Need-enum-known-at
-enum-known-at c = search needs
+enum-known-p : tie.Need-enum-known-p
+enum-known-p c = search needs
 
-add-from-record : tie.Need-add-from-record
-add-from-record c =
-    let p = c .before in let at = p .at in
+add-to : tie.Need-add-to
+add-to c =
+    let p = c .before .before in let found = p .p .given in
     let p = p .before .before in let lookup = p .lookup in
-    let p = p .before .before .before .before .before in let shared-slice-known2 = p .shared-slice-known2 in
-    let start = p .before .before in
-    let s = start .args in
-    let l = lookup in
+    let p = p .before .before .before .before .before in let bytes = p .shared-slice-known2 .given in
+    let s = p .before .before .args in
     omega (
       arith,
-      record-within (s .block .now) (s .img .now) _ (l .result) (l .ensures) (λ i. omega (arith, shared-slice-known2 .given i))
-          (at .given .0 .0) (at .given .0 .1 .0) (at .given .1) .0,
+      record-within (s .block .now) (s .img .now) _ (lookup .result) (lookup .ensures) (λ i. omega (arith, bytes i)) (found .0 .0) (found .1) .0,
     )
 
 sub-from-record : tie.Need-sub-from-record
@@ -79,16 +77,13 @@ part-from-record-start c = search needs
 
 part-from-record-end : tie.Need-part-from-record-end
 part-from-record-end c =
-    let p = c .before in let at = p .at in
+    let p = c .before .before in let found = p .p .given in
     let p = p .before .before in let lookup = p .lookup in
-    let p = p .before .before .before .before .before in let shared-slice-known2 = p .shared-slice-known2 in
-    let start = p .before .before in
-    let s = start .args in
-    let l = lookup in
+    let p = p .before .before .before .before .before in let bytes = p .shared-slice-known2 .given in
+    let s = p .before .before .args in
     omega (
       arith,
-      record-within (s .block .now) (s .img .now) _ (l .result) (l .ensures) (λ i. omega (arith, shared-slice-known2 .given i))
-          (at .given .0 .0) (at .given .0 .1 .0) (at .given .1) .0,
+      record-within (s .block .now) (s .img .now) _ (lookup .result) (lookup .ensures) (λ i. omega (arith, bytes i)) (found .0 .0) (found .1) .0,
     )
 
 from-record-requires : tie.Need-from-record-requires
@@ -116,11 +111,11 @@ returns-4 c =
     let s = start .args in
     found-none (s .block .now) (s .img .now) (s .a) (s .b)
     (decided-true (channels-fit .result) (channels-fit .ensures) (not-false _ (if1 .left))) (pair-key .ensures)
-    (c .before .before .lookup .ensures) (c .enum-told2 .given .1)
+    (c .before .before .lookup .ensures) (c .enum-told2 .given .0 .0) (c .enum-told2 .given .1)
 
 returns-5 : tie.Need-returns-5
 returns-5 c =
-    let p = c .before .before .before in let at = p .at in
+    let p = c .before .before .before .before in let found = p .p .given in
     let p = p .before .before in let lookup = p .lookup in
     let p = p .before .before in let pair-key = p .pair-key in
     let p = p .before in let if1 = p .if1 in
@@ -129,7 +124,7 @@ returns-5 c =
     let s = start .args in
     found-record (s .block .now) (s .img .now) (s .a) (s .b)
     (decided-true (channels-fit .result) (channels-fit .ensures) (not-false _ (if1 .left))) (pair-key .ensures) (lookup .ensures)
-    (at .given .0 .0) (at .given .0 .1 .0) (at .given .1) (c .from-record .ensures)
+    (found .0 .0) (found .1) refl (c .from-record .ensures)
 
 pub delay-spec : {M : Type 1} → statement M
 delay-spec =
@@ -146,8 +141,8 @@ delay-spec =
     lookup-requires
     enum-known-stage
     enum-told-2
-    enum-known-at
-    add-from-record
+    enum-known-p
+    add-to
     sub-from-record
     part-from-record-start
     part-from-record-end

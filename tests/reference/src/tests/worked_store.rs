@@ -101,7 +101,7 @@ pub fn stores(before: Vec<u8>, key: [u8; 2], value: &[u8], number: u32, after: V
 #[test]
 fn p1_empty_store() {
     assert_eq!(check(&block(), &store_x()), (0, [0, 0, 1, 1]));
-    assert_eq!(lookup(&block(), &store_x(), &[1, 2]), (1, [0, 0]));
+    assert_eq!(lookup(&block(), &store_x(), &[1, 2]), (1, [0, 0, 1, 1]));
 }
 
 #[test]
@@ -113,8 +113,8 @@ fn p2_first_entry() {
 #[test]
 fn p3_second_entry() {
     stores(after_p2(), [2, 1], &VALUE_2, 0, after_p3());
-    assert_eq!(lookup(&block(), &after_p3(), &[1, 2]), (0, [236, 4]));
-    assert_eq!(lookup(&block(), &after_p3(), &[2, 1]), (0, [244, 4]));
+    assert_eq!(lookup(&block(), &after_p3(), &[1, 2]), (0, [236, 4, 1, 1]));
+    assert_eq!(lookup(&block(), &after_p3(), &[2, 1]), (0, [244, 4, 1, 2]));
 }
 
 #[test]
@@ -207,7 +207,7 @@ fn list_of_p3() {
 #[test]
 fn offered_keys_and_values_out_of_range() {
     for key in [vec![], vec![7; 1025]] {
-        assert_eq!(lookup(&block(), &store_x(), &key), (8, [0; 2]));
+        assert_eq!(lookup(&block(), &store_x(), &key), (8, [0; 4]));
         assert_eq!(remove(&block(), &mut store_x(), &key), 8);
         assert_eq!(store(&block(), &mut store_x(), &key, &[0; 65_536]), 8);
     }

@@ -22,6 +22,7 @@ slot-for-requires c κs =
         lookupIs = lookup-made (start .args .z .settings) (start .args .key .now) (xxh64 .ensures) (lookup-of-hash .ensures .0);
       };
       takes = start .pre .takes;
+      slotIs = start .pre .slotIs;
     }
 
 write-at-requires : tie.Need-write-at-requires
