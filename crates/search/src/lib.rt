@@ -43,8 +43,9 @@ pub fn seek(z: Shape, img: &[u8], key: &[u8], lookup: u64, t: usize) -> Sought
     ensures { λ r. ⌜ r ≡ soughtIn z (now (img .entry)) (now (key .entry)) t ⌝ }
 {
     let st = z.settings;
+    let from = entries::keys::start(st, lookup);
     let mut cursor = Cursor {
-        slot: entries::keys::start(st, lookup),
+        slot: from,
         slots: st.slots,
     };
     let mut left = st.slots;
@@ -71,7 +72,8 @@ pub fn search(z: Shape, img: &[u8], key: &[u8]) -> Found
     let h = xxh64::xxh64(key);
     let lookup = entries::keys::lookup_of_hash(z.settings, h);
     let most = layout::tier_count(z);
-    let mut t = entries::keys::segment_of_hash(z.settings, h) + 1;
+    let main = entries::keys::segment_of_hash(z.settings, h) + 1;
+    let mut t = main;
     let mut tier = 0;
     let mut slot = 0;
     let mut k = 0;

@@ -9,10 +9,10 @@ use Rattle.search.proofs.search.Statement.{statement}
 use Rattle.search.proofs.search.Tie as tie
 
 abbrev Inv-loop : tie.InvT-loop
-Inv-loop z img key h lookup most t₀ tier₀ slot₀ k₀ t tier slot k = Searching z img key most t tier slot k
+Inv-loop z img key h lookup most main t₀ tier₀ slot₀ k₀ t tier slot k = Searching z img key most t tier slot k
 
 abbrev μ-loop : tie.MeasureT-loop
-μ-loop z img key h lookup most t₀ tier₀ slot₀ k₀ t tier slot k = most - k
+μ-loop z img key h lookup most main t₀ tier₀ slot₀ k₀ t tier slot k = most - k
 
 xxh64-requires : tie.Need-xxh64-requires Inv-loop μ-loop
 xxh64-requires c κs = search needs
@@ -28,8 +28,8 @@ tier-count-requires c κs =
 segment-of-hash-requires : tie.Need-segment-of-hash-requires Inv-loop μ-loop
 segment-of-hash-requires c κs = search needs
 
-add-t : tie.Need-add-t Inv-loop μ-loop
-add-t c = search needs
+add-main : tie.Need-add-main Inv-loop μ-loop
+add-main c = search needs
 
 loop-holds : tie.Need-loop-holds Inv-loop μ-loop
 unfolding segmentOf
@@ -120,7 +120,7 @@ search-spec =
     lookup-of-hash-requires
     tier-count-requires
     segment-of-hash-requires
-    add-t
+    add-main
     loop-holds
     returns
     seek-requires

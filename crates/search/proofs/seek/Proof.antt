@@ -8,10 +8,10 @@ use Rattle.search.proofs.seek.Statement.{statement}
 use Rattle.search.proofs.seek.Tie as tie
 
 abbrev Inv-loop : tie.InvT-loop
-Inv-loop z img key lookup t cursor₀ left₀ cursor left = Seeking z img key t (cursor .slot) left × (cursor .slots ≡ z .settings .slots)
+Inv-loop z img key lookup t from cursor₀ left₀ cursor left = Seeking z img key t (cursor .slot) left × (cursor .slots ≡ z .settings .slots)
 
 abbrev μ-loop : tie.MeasureT-loop
-μ-loop z img key lookup t cursor₀ left₀ cursor left = left
+μ-loop z img key lookup t from cursor₀ left₀ cursor left = left
 
 start-requires : tie.Need-start-requires Inv-loop μ-loop
 start-requires c κs = search needs
