@@ -65,9 +65,9 @@ no-record (looked.Absent e) ne = (refl, refl)
 no-record (looked.Refused s) ne = (refl, refl)
 
 module _ (block img key : List ℕ) where
-  absent-ended : (z : Shape) (c : Counts) → asked block img (aKey key) ≡ Ready z c
+  asked-ended : (z : Shape) (c : Counts) → asked block img (aKey key) ≡ Ready z c
       → Ended (shape block img) img key (searchEnd z img key .tier) (searchEnd z img key .slot)
-  absent-ended z c e =
+  asked-ended z c e =
       let ready : examine block img ≡ Ready z c = key-ready block img key z c refl e .ready in
       let fits : Fitting block img z = ready-fitting block img z c ready in
       subst (λ (x : Shape). Ended x img key (searchEnd z img key .tier) (searchEnd z img key .slot)) (fits .shape)
@@ -91,7 +91,7 @@ module _ (block img key : List ℕ) where
             allowed = List·Memᴰ·tail (in-span 1 8 1 (omega arith) (omega arith));
             noRecord = λ _. refl;
             noEnd = λ _ ne. absurd (ne refl);
-            ended = λ _. absent-ended z c e;
+            ended = λ _. asked-ended z c e;
           }
       by-find (some x) =
           record {

@@ -3,6 +3,7 @@ use Prim.Native.Nat.{ℕ}
 use mathlib.Core.List.{List, [], _∷_, _++_, map}
 use mathlib.Core.Path.{_≡_, refl, ap, sym, _∙_}
 use mathlib.Core.Logic.{_≢_, _⊎_, inl, inr}
+use native.Mathlib.Omega.{arith}
 use lib.ListN.{getD}
 use Rattle.image.specs.declared.Stage.{Stage}
 use Rattle.image.specs.declared.Stage.the-variants.{Block, Field, Frame, Chains, Entries, Chunks, Key, Value}
@@ -17,7 +18,8 @@ use Rattle.chronicle_map.specs.declared.Located.the-variants as looked
 use Rattle.chronicle_map.specs.declared.Answer.{Answer}
 use Rattle.chronicle_map.specs.declared.Answer.the-variants as answer
 use Rattle.chronicle_map.specs.Calls.{numberOf, lookupNumbers, answerNumber}
-use Rattle.chronicle_map.specs.Demands.{Tells}
+use Rattle.chronicle_map.specs.Demands.{Tells, IsAbsent}
+use Rattle.chronicle_map.proofs.Highest.{stage-least}
 
 stages : List Stage
 stages = Block ∷ Field ∷ Frame ∷ Chains ∷ Entries ∷ Chunks ∷ Key ∷ Value ∷ []
@@ -62,11 +64,13 @@ lists-told = tells-by _ (numbered listed.Refused listed.Past listed.Past) back
     back (listed.Refused s) ne = stage-numbered listed.Refused _ _ s
 
 pub lookups-told : (a b : Located) → numberOf (lookupNumbers a) ≢ 0 → numberOf (lookupNumbers a) ≡ numberOf (lookupNumbers b)
-    → (a ≡ b) ⊎ (numberOf (lookupNumbers a) ≡ 1)
+    → (a ≡ b) ⊎ (IsAbsent a × IsAbsent b)
 lookups-told (looked.Found p) b ne e = absurd (ne refl)
-lookups-told (looked.Absent x) b ne e = inr refl
+lookups-told (looked.Absent x) (looked.Found p) ne e = absurd (ne e)
+lookups-told (looked.Absent x) (looked.Absent y) ne e = inr ((x, refl), (y, refl))
+lookups-told (looked.Absent x) (looked.Refused s) ne e = absurd (omega (arith, stage-least s))
 lookups-told (looked.Refused s) (looked.Found p) ne e = absurd (ne e)
-lookups-told (looked.Refused s) (looked.Absent x) ne e = inr e
+lookups-told (looked.Refused s) (looked.Absent x) ne e = absurd (omega (arith, stage-least s))
 lookups-told (looked.Refused s) (looked.Refused r) ne e = inl (ap looked.Refused (stages-told s r ne e))
 
 pub edits-told : Tells answerNumber

@@ -33,6 +33,7 @@ use Rattle.image.specs.declared.Outcome.the-variants as outcome
 use Rattle.image.specs.declared.Listed.{Listed}
 use Rattle.image.specs.Check.{stageNumber, check, outcomeNumbers, verdictNumbers}
 use Rattle.image.specs.List.{entry, listedNumbers}
+use Rattle.chronicle_map.specs.declared.SearchEnd.{SearchEnd}
 use Rattle.chronicle_map.specs.declared.Located.{Located}
 use Rattle.chronicle_map.specs.declared.Located.the-variants as looked
 use Rattle.chronicle_map.specs.Calls.{numberOf, placeOf, searchEnd, lookup, lookupNumbers, recordAt, recordLength, answerNumber, remove, store}
@@ -67,6 +68,10 @@ module _ (z : Shape) (img key : List ℕ) where
     pub empty : slotAt z img t j ≡ 0
     pub fullBefore : Below slots (λ k. fromStart k < fromStart j → slotAt z img t k ≢ 0)
 
+-- a lookup's answer for an absent key
+abbrev pub IsAbsent : Located → Type 0
+IsAbsent l = (e : SearchEnd) × (l ≡ looked.Absent e)
+
 -- the same of a lookup's number, offset, length, tier and slot, with one exception: with 1, tier and slot say where the search ended
 pub record LookupAnswers (block img key may ns : List ℕ) : Type 0 where
   pub allowed : List·Memᴰ (numberOf ns) may
@@ -89,12 +94,12 @@ pub record Demand1 (block img : List ℕ) : Type 0 where
   -- an edit answered otherwise than 0 leaves every byte as it was
   pub removalRefused : (key : List ℕ) → answerNumber (remove block img key .answer) ≢ 0 → remove block img key .image ≡ img
   pub storeRefused : (key value : List ℕ) → answerNumber (store block img key value .answer) ≢ 0 → store block img key value .image ≡ img
-  -- each refusal has a number of its own; so has a lookup's absence, wherever the search ended
+  -- each refusal has a number of its own; two absent keys share theirs, wherever the searches ended
   pub stagesTold : Tells stageNumber
   pub checksTold : Tells (λ (v : Outcome). numberOf (outcomeNumbers v))
   pub listsTold : Tells (λ (l : Listed). numberOf (listedNumbers l))
   pub lookupsTold : (a b : Located) → numberOf (lookupNumbers a) ≢ 0 → numberOf (lookupNumbers a) ≡ numberOf (lookupNumbers b)
-      → (a ≡ b) ⊎ (numberOf (lookupNumbers a) ≡ 1)
+      → (a ≡ b) ⊎ (IsAbsent a × IsAbsent b)
   pub editsTold : Tells answerNumber
 
 -- ---- which images are accepted
