@@ -95,7 +95,7 @@ uint32_t chronicle_map_check(const uint8_t *block, size_t block_len,
 /*
  * Looks up the record under a key. Keys are compared whole. Returns 0, 1 or one of 2 to 8.
  * With 0 the record is the `length` bytes from image + `offset` on, within the image, and stays there until a
- * store or a removal; an empty record is found with length 0. With 1 the key is absent, and tier and slot say
+ * store or a removal (a store that replaces another key's record on the spot leaves it there); an empty record is found with length 0. With 1 the key is absent, and tier and slot say
  * where the search for it ended: in the last tier of the chain of the key's segment, at the first empty slot
  * from the key's start slot on, wrapping. A store of that key may go to another tier or slot.
  */
@@ -107,11 +107,25 @@ uint32_t chronicle_map_lookup(const uint8_t *block, size_t block_len,
 /*
  * Stores a record under a key. A record that is already there under the same key is replaced; every other
  * key keeps its record. Returns 0 or one of 2 to 10.
+ * A replacement that takes as many chunks as the old entry stays on the spot: it keeps its tier, slot and
+ * chunks, only the entry's own bytes are written, and what a lookup of any other key answered before is still
+ * right. The offset of its own record moves only where the record's length takes a byte more or fewer than
+ * before (from 127 to 128, from 16,383 to 16,384 or back). Any other replacement goes where a tight store puts it.
  */
 uint32_t chronicle_map_store(const uint8_t *block, size_t block_len,
                              uint8_t *image, size_t image_len,
                              const uint8_t *key, size_t key_len,
                              const uint8_t *value, size_t value_len);
+
+/*
+ * The tight store: the same, but what it replaces is always removed first, in effect, and the new entry goes
+ * to the lowest run of chunks in the first tier that takes it. A new key is stored alike by both. Neither
+ * returns 10 for a replacement that takes as many chunks as the old entry, or fewer.
+ */
+uint32_t chronicle_map_store_tight(const uint8_t *block, size_t block_len,
+                                   uint8_t *image, size_t image_len,
+                                   const uint8_t *key, size_t key_len,
+                                   const uint8_t *value, size_t value_len);
 
 /*
  * Removes a key with its record; every other key keeps its record. Returns 0, 1 or one of 2 to 8.
@@ -144,8 +158,8 @@ uint32_t chronicle_map_delay(const uint8_t *block, size_t block_len,
                              uint32_t a, uint32_t b, int32_t *delay);
 
 /*
- * Sets the delay of channels a and b, in that order, and so of both orders. It is a store of the pair's record
- * under its key: what is there is replaced, and every other key keeps its record. Returns 0, one of 2 to 7, 11,
+ * Sets the delay of channels a and b, in that order, and so of both orders. It is chronicle_map_store of the pair's
+ * record under its key, so a delay is replaced on the spot: what is there is replaced, and every other key keeps its record. Returns 0, one of 2 to 7, 11,
  * 12 where the delay is INT32_MIN, 9 or 10.
  */
 uint32_t chronicle_map_set_delay(const uint8_t *block, size_t block_len,

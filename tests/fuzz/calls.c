@@ -29,6 +29,49 @@ static void edited(uint32_t number, uint32_t most, const uint8_t *block, const u
     }
 }
 
+/* The list's row of a key, and the place of its record; zeros where the key is not found. */
+static struct chronicle_map_row row_of(const uint8_t *block, const uint8_t *image, size_t length, const uint8_t *key, size_t key_length,
+                                       struct chronicle_map_place *place) {
+    struct chronicle_map_row row, none = {0, 0, 0, 0, 0, 0, 0};
+    if (chronicle_map_lookup(block, BLOCK, image, length, key, key_length, place) != 0) {
+        return none;
+    }
+    for (uint64_t n = 0; chronicle_map_entry(block, BLOCK, image, length, n, &row) == 0; n++) {
+        if (row.tier == place->tier && row.slot == place->slot) {
+            return row;
+        }
+    }
+    return none;
+}
+
+/* A store answered 0, with the key as its record. A record that took as many chunks was replaced on the spot: its entry has the tier, slot and
+ * chunks that it had, and no byte outside the entry has changed. */
+static void on_the_spot(const uint8_t *block, const uint8_t *before, const uint8_t *after, size_t length, const uint8_t *key, size_t key_length) {
+    struct chronicle_map_place old_place, place;
+    struct chronicle_map_row old = row_of(block, before, length, key, key_length, &old_place);
+    struct chronicle_map_row row = row_of(block, after, length, key, key_length, &place);
+    need(row.chunks != 0);
+    size_t end = place.offset + place.length;
+    size_t start = end - 2 * ((key_length < 128 ? 1 : 2) + key_length);
+    if (old.chunks == row.chunks) {
+        need(old.tier == row.tier && old.slot == row.slot && old.chunk == row.chunk);
+        need(memcmp(before, after, start) == 0 && memcmp(before + end, after + end, length - end) == 0);
+    }
+}
+
+/* Both kinds of store, with the key as the record: they answer the same number. */
+static void stored(const uint8_t *block, const uint8_t *image, uint8_t *copy, size_t length, const uint8_t *key, size_t key_length) {
+    uint32_t tight = chronicle_map_store_tight(block, BLOCK, copy, length, key, key_length, key, key_length);
+    edited(tight, 10, block, image, copy, length);
+    memcpy(copy, image, length);
+    uint32_t number = chronicle_map_store(block, BLOCK, copy, length, key, key_length, key, key_length);
+    edited(number, 10, block, image, copy, length);
+    need(number == tight);
+    if (number == 0) {
+        on_the_spot(block, image, copy, length, key, key_length);
+    }
+}
+
 /* Both orders of a pair: the same number, and delays that sum to 0. Answers the number, and the delay of the first order. */
 static uint32_t ask(const uint8_t *block, const uint8_t *image, size_t length, const struct pair *p, int32_t *delay) {
     int32_t other = 0x5a5a5a5a;
@@ -102,7 +145,7 @@ int LLVMFuzzerTestOneInput(const uint8_t *data, size_t size) {
     looked(number, block, image, length, key, key_length, counts.entries);
     uint8_t *copy = malloc(length + 1);
     memcpy(copy, image, length);
-    edited(chronicle_map_store(block, BLOCK, copy, length, key, key_length, key, key_length), 10, block, image, copy, length);
+    stored(block, image, copy, length, key, key_length);
     memcpy(copy, image, length);
     edited(chronicle_map_remove(block, BLOCK, copy, length, key, key_length), 8, block, image, copy, length);
     memcpy(copy, image, length);

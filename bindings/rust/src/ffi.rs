@@ -32,6 +32,16 @@ mod c {
             value: *const u8,
             value_len: usize,
         ) -> u32;
+        pub fn chronicle_map_store_tight(
+            block: *const u8,
+            block_len: usize,
+            image: *mut u8,
+            image_len: usize,
+            key: *const u8,
+            key_len: usize,
+            value: *const u8,
+            value_len: usize,
+        ) -> u32;
         pub fn chronicle_map_remove(
             block: *const u8,
             block_len: usize,
@@ -105,6 +115,23 @@ pub fn store(block: &[u8], image: &mut [u8], key: &[u8], value: &[u8]) -> u32 {
     // SAFETY: as in `check`.
     unsafe {
         c::chronicle_map_store(
+            block.as_ptr(),
+            block.len(),
+            image.as_mut_ptr(),
+            image.len(),
+            key.as_ptr(),
+            key.len(),
+            value.as_ptr(),
+            value.len(),
+        )
+    }
+}
+
+/// A tight store: its number.
+pub fn store_tight(block: &[u8], image: &mut [u8], key: &[u8], value: &[u8]) -> u32 {
+    // SAFETY: as in `check`.
+    unsafe {
+        c::chronicle_map_store_tight(
             block.as_ptr(),
             block.len(),
             image.as_mut_ptr(),

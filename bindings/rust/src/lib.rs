@@ -205,8 +205,31 @@ pub fn record<'a>(block: &[u8], image: &'a [u8], key: &[u8]) -> Result<Option<&'
 
 /// Stores a record under a key, or replaces the one that is there. Every other key keeps its record.
 /// Refusals: `Block` to `Full`.
+///
+/// A replacement that takes as many chunks as the old entry stays on the spot: it keeps its tier, slot and chunks, only the
+/// entry's own bytes are written, and what `lookup` answered for any other key is still right. The offset of its own record
+/// moves only where the record's length takes a byte more or fewer than before (127 and 128, 16,383 and 16,384). Any other
+/// replacement goes where `store_tight` puts it.
 pub fn store(block: &[u8], image: &mut [u8], key: &[u8], value: &[u8]) -> Result<(), Refusal> {
-    match ffi::store(block, image, key, value) {
+    done(ffi::store(block, image, key, value))
+}
+
+/// The tight store: what it replaces is always removed first, in effect, and the new entry goes to the lowest run of chunks
+/// in the first tier that takes it. A new key is stored alike by both. Refusals: `Block` to `Full`.
+///
+/// Neither is refused with `Full` where it replaces an entry of as many chunks, or of more.
+pub fn store_tight(
+    block: &[u8],
+    image: &mut [u8],
+    key: &[u8],
+    value: &[u8],
+) -> Result<(), Refusal> {
+    done(ffi::store_tight(block, image, key, value))
+}
+
+// The number of a store or a set.
+fn done(number: u32) -> Result<(), Refusal> {
+    match number {
         0 => Ok(()),
         number => Err(Refusal::of(number)),
     }
@@ -270,10 +293,7 @@ pub fn set_delay(
     b: u32,
     delay: i32,
 ) -> Result<(), Refusal> {
-    match ffi::set_delay(block, image, a, b, delay) {
-        0 => Ok(()),
-        number => Err(Refusal::of(number)),
-    }
+    done(ffi::set_delay(block, image, a, b, delay))
 }
 
 /// The XXH64 hash of some bytes, with seed 0: the hash by which keys are placed.

@@ -77,6 +77,43 @@ fn a_store_alters_its_own_key_alone() {
     assert_eq!(check(block, &image).map(|c| c.entries), Ok(3));
 }
 
+// 1 2 stands in slot 1 and chunk 0, 2 1 behind it in slot 2 and chunk 1.
+#[test]
+fn a_replacement_of_as_many_chunks_stays_on_the_spot() {
+    let (block, mut image) = pairs();
+    let before = image.clone();
+    assert_eq!(
+        store(block, &mut image, &[1, 2], &32i32.to_le_bytes()),
+        Ok(())
+    );
+    assert_eq!(image[236], 32);
+    image[236] = before[236];
+    assert_eq!(image, before);
+}
+
+#[test]
+fn a_tight_replacement_moves() {
+    let (block, mut image) = pairs();
+    assert_eq!(
+        store_tight(block, &mut image, &[1, 2], &32i32.to_le_bytes()),
+        Ok(())
+    );
+    assert_eq!(stored(block, &image, [1, 2]), Some(32));
+    assert_eq!(
+        lookup(block, &image, &[1, 2]),
+        Ok(Located::Found {
+            offset: 236,
+            length: 4,
+            tier: 1,
+            slot: 2
+        })
+    );
+    assert_eq!(
+        store_tight(block, &mut image, &[1, 2], &[0; 29]),
+        Err(Refusal::Value)
+    );
+}
+
 #[test]
 fn a_removal_says_whether_the_key_was_there() {
     let (block, mut image) = pairs();

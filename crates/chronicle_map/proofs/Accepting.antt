@@ -73,7 +73,7 @@ module _ (block img : List ℕ) where
 
 -- an image of the same shape holds too, and reads as what it reads as under that shape
 module _ {block img img′ : List ℕ} (h : Holds block img) (sound : SoundImage (shape block img) img′) where
-  shape-again : shape block img ≡ shape block img′
+  pub shape-again : shape block img ≡ shape block img′
   shape-again = sym (sound .shape) ∙ ap (λ (st : Settings). shapeOf st img′) (shape-settings (settingsOf block) img)
 
   pub holds-again : Holds block img′

@@ -10,7 +10,7 @@ use borrow.Author.Tests.{not-true}
 use Rattle.lists.specs.Cases.{by-test}
 use Rattle.lists.specs.Decide.{choose}
 use Rattle.lists.specs.Lists.{first, those}
-use Rattle.lists.proofs.Decides.{choose-yes}
+use Rattle.lists.proofs.Decides.{choose-no, choose-yes}
 use Rattle.lists.proofs.Members.{those-in, none-first}
 use Rattle.words.specs.Bytes.{Bytes}
 use Rattle.words.proofs.Bytes.{same-true, same-refl, same-false}
@@ -24,7 +24,9 @@ use Rattle.entries.specs.Stored.{keyOf}
 use Rattle.entries.specs.Live.{live}
 use Rattle.entries.specs.Pairs.{Pair, pairOf, pairsOf}
 use Rattle.sound.specs.Sound.{SoundImage, ImageFits}
+use Rattle.edit.specs.declared.Policy.{Policy}
 use Rattle.image.specs.declared.Counts.{Counts}
+use Rattle.image.specs.declared.Stage.the-variants.{Key}
 use Rattle.image.specs.declared.Examined.the-variants.{Ready}
 use Rattle.image.specs.Check.{countsOf, examine, verdictOf, check}
 use Rattle.image.proofs.Ready.{Fitting, fitting-ready, ready-fitting}
@@ -35,7 +37,7 @@ use Rattle.entries.proofs.LiveLists.{live-in}
 use Rattle.chronicle_map.specs.declared.Located.the-variants as looked
 use Rattle.chronicle_map.specs.Asked.{aKey, anEntry, GivenKeyFits, givenKeyFits?, GivenValueFits, givenValueFits?, afterValue, afterKey}
 use Rattle.chronicle_map.specs.Calls.{placeOf, searchEnd, fromFind, lookedUp, lookup, answerNumber, remove, store}
-use Rattle.chronicle_map.specs.History.{Said, stores, removes, says, leaves, row10, Map, hasKey, mapOf, mapGet, mapDrop, mapSet, mapRemove, mapStore, unlessValue, unlessKey, unless, recall}
+use Rattle.chronicle_map.specs.History.{Call, Said, stores, removes, says, leaves, row10, Map, hasKey, mapOf, mapGet, mapDrop, mapSet, mapRemove, mapStore, unlessValue, unlessKey, unless, recall}
 use Rattle.chronicle_map.specs.Demands.{Accepted, shape, Fits, LooksUp, Alters, Demand2}
 use Rattle.chronicle_map.proofs.Weights.{Weigh}
 use Rattle.chronicle_map.proofs.Accepting.{Holds, holds-accepted, accepted-ready, accepted-holds}
@@ -61,7 +63,7 @@ accepted-fits block img (c, e) =
 -- ---- maps
 
 -- a map that weighs the same finds the same
-same-get : (z : Shape) (img : List ℕ) → SoundImage z img → (m : Map) → Weigh (pairsOf z img) m → (key : List ℕ)
+pub same-get : (z : Shape) (img : List ℕ) → SoundImage z img → (m : Map) → Weigh (pairsOf z img) m → (key : List ℕ)
     → mapGet (pairsOf z img) key ≡ mapGet m key
 same-get z img sound m w key = by-find (find z img key) refl
   where
@@ -131,6 +133,24 @@ module _ (st : Settings) (m : Map) (key : List ℕ) where
   remove-zero (no n) e = absurd (omega arith)
   remove-zero (yes k) e = found-zero (mapGet m key) e
 
+-- ---- a lookup, by whether the key fits
+
+module _ (block img : List ℕ) (h : Holds block img) where
+  abbrev z₀ : Shape
+  z₀ = shape block img
+
+  pub lookup-is : (key : List ℕ) → KeyFits (z₀ .settings) key → lookup block img key ≡ fromFind z₀ img key (find z₀ img key)
+  unfolding lookup lookedUp afterKey afterValue
+  lookup-is key k =
+      ap (lookedUp img key)
+      (asked-holds block img h (aKey key)
+      ∙ choose-yes (givenKeyFits? (z₀ .settings) (aKey key)) _ _ k
+      ∙ choose-yes (givenValueFits? (z₀ .settings) (aKey key)) _ _ tt)
+
+  pub lookup-misfit : (key : List ℕ) → (KeyFits (z₀ .settings) key → ⊥) → lookup block img key ≡ looked.Refused Key
+  unfolding lookup lookedUp afterKey
+  lookup-misfit key n = ap (lookedUp img key) (asked-holds block img h (aKey key) ∙ choose-no (givenKeyFits? (z₀ .settings) (aKey key)) _ _ n)
+
 -- ---- a call on an accepted image
 
 module _ (block img : List ℕ) (b : Bytes img) (a : Accepted block img) where
@@ -142,14 +162,6 @@ module _ (block img : List ℕ) (b : Bytes img) (a : Accepted block img) where
 
   -- a lookup
 
-  lookup-is : (key : List ℕ) → KeyFits (z .settings) key → lookup block img key ≡ fromFind z img key (find z img key)
-  unfolding lookup lookedUp afterKey afterValue
-  lookup-is key k =
-      ap (lookedUp img key)
-      (asked-holds block img h (aKey key)
-      ∙ choose-yes (givenKeyFits? (z .settings) (aKey key)) _ _ k
-      ∙ choose-yes (givenValueFits? (z .settings) (aKey key)) _ _ tt)
-
   looks-up : (key : List ℕ) → LooksUp block img key
   unfolding fromFind
   looks-up key = record { stored = there; none = not-there }
@@ -158,12 +170,12 @@ module _ (block img : List ℕ) (b : Bytes img) (a : Accepted block img) where
           → lookup block img key ≡ looked.Found (placeOf e)
       there e m k =
           let fits : KeyFits (z .settings) key = rw k at (live-key-fits z img (h .sound) e (live-in z img e m)) in
-          lookup-is key fits ∙ ap (fromFind z img key) (found-only z img (h .sound) key e m k)
+          lookup-is block img h key fits ∙ ap (fromFind z img key) (found-only z img (h .sound) key e m k)
 
       not-there : KeyFits (settingsOf block) key → mapGet (mapOf block img) key ≡ none
           → lookup block img key ≡ looked.Absent (searchEnd z img key)
       not-there k g =
-          lookup-is key (subst (λ (st : Settings). KeyFits st key) (sym (shape-settings (settingsOf block) img)) k)
+          lookup-is block img h key (subst (λ (st : Settings). KeyFits st key) (sym (shape-settings (settingsOf block) img)) k)
           ∙ ap (fromFind z img key) (by-find (find z img key) refl)
         where
           by-find : (o : Option Live) → find z img key ≡ o → o ≡ none
@@ -186,16 +198,17 @@ module _ (block img : List ℕ) (b : Bytes img) (a : Accepted block img) where
       reads : (k : List ℕ) → mapGet (mapOf block img′) k ≡ mapGet m k
       reads k = same-get (shape block img′) img′ (h′ .sound) m w k
 
-  stored : (key value : List ℕ) → Bytes key → Bytes value → answerNumber (store block img key value .answer) ≡ 0
-      → Alters block img (store block img key value .image) key (some (record { key = key; value = value }))
+  stored : (policy : Policy) (key value : List ℕ) → Bytes key → Bytes value → answerNumber (store policy block img key value .answer) ≡ 0
+      → Alters block img (store policy block img key value .image) key (some (record { key = key; value = value }))
   unfolding leaves says recall unless
-  stored key value kb vb e =
-      let s : Step block img h (pairsOf z img) (λ F. refl) (stores key value) = step block img h (pairsOf z img) (λ F. refl) (stores key value) (kb, vb) in
-      let n : recall (settingsOf block) (pairsOf z img) (stores key value) (row10 block img (stores key value)) .said .number ≡ 0 =
+  stored policy key value kb vb e =
+      let call : Call = stores policy key value in
+      let s : Step block img h (pairsOf z img) (λ F. refl) call = step block img h (pairsOf z img) (λ F. refl) call (kb, vb) in
+      let n : recall (settingsOf block) (pairsOf z img) call (row10 block img call) .said .number ≡ 0 =
       ap (λ (x : Said). x .number) (sym (s .said)) ∙ e in
-      let m : recall (settingsOf block) (pairsOf z img) (stores key value) (row10 block img (stores key value)) .map ≡ mapSet (pairsOf z img) key value =
-      store-zero (settingsOf block) (pairsOf z img) key value (row10 block img (stores key value)) (givenKeyFits? (settingsOf block) (anEntry key value)) n in
-      alters (store block img key value .image) key (mapSet (pairsOf z img) key value) (some (record { key = key; value = value })) (s .holds)
+      let m : recall (settingsOf block) (pairsOf z img) call (row10 block img call) .map ≡ mapSet (pairsOf z img) key value =
+      store-zero (settingsOf block) (pairsOf z img) key value (row10 block img call) (givenKeyFits? (settingsOf block) (anEntry key value)) n in
+      alters (store policy block img key value .image) key (mapSet (pairsOf z img) key value) (some (record { key = key; value = value })) (s .holds)
       (rw m at (s .weighs)) (set-own (pairsOf z img) key value) (set-other (pairsOf z img) key value)
 
   removed : (key : List ℕ) → Bytes key → answerNumber (remove block img key .answer) ≡ 0 → Alters block img (remove block img key .image) key none

@@ -25,6 +25,7 @@ use Rattle.search.proofs.Finding.{search-absent}
 use Rattle.sound.specs.Sound.{SoundImage}
 use Rattle.counters.specs.Recount.{settle}
 use Rattle.edit.specs.Edits.{find, withoutEntry, removedEntry, removeImage, noRoom}
+use Rattle.edit.specs.declared.Policy.{Policy}
 use Rattle.edit.specs.Replaced.{isThere, Stores}
 use Rattle.edit.proofs.Finding.{find-live, search-found, search-none}
 use Rattle.edit.proofs.Replacing.{live-value}
@@ -155,26 +156,26 @@ module _ (block img key : List ℕ) {x : Examined} (ex : x ≡ asked block img (
 
 -- ---- store
 
-module _ (z : Shape) (img key value : List ℕ) (r : Bool) {img′ : List ℕ} (e : Stores z img key value r img′) where
-  pub stored-done : r ≡ true → record { answer = answer.Done; image = img′ } ≡ storeUnless z img key value (noRoom z img key value)
+module _ (policy : Policy) (z : Shape) (img key value : List ℕ) (r : Bool) {img′ : List ℕ} (e : Stores policy z img key value r img′) where
+  pub stored-done : r ≡ true → record { answer = answer.Done; image = img′ } ≡ storeUnless policy z img key value (noRoom z img key value)
   unfolding storeUnless
   stored-done t =
-      let s : Stores z img key value true img′ = subst (λ (b : Bool). Stores z img key value b img′) t e in
+      let s : Stores policy z img key value true img′ = subst (λ (b : Bool). Stores policy z img key value b img′) t e in
       rw (s .0) (λ i. record { answer = answer.Done; image = s .1 i })
 
-  pub stored-full : r ≡ false → record { answer = answer.Full; image = img′ } ≡ storeUnless z img key value (noRoom z img key value)
+  pub stored-full : r ≡ false → record { answer = answer.Full; image = img′ } ≡ storeUnless policy z img key value (noRoom z img key value)
   unfolding storeUnless
   stored-full t =
-      let s : Stores z img key value false img′ = subst (λ (b : Bool). Stores z img key value b img′) t e in
+      let s : Stores policy z img key value false img′ = subst (λ (b : Bool). Stores policy z img key value b img′) t e in
       rw (s .0) (λ i. record { answer = answer.Full; image = s .1 i })
 
-module _ (block img key value : List ℕ) {x : Examined} (ex : x ≡ asked block img (anEntry key value)) where
-  pub store-refused : (s : Stage) → x ≡ Refused s → record { answer = answer.Refused s; image = img } ≡ store block img key value
+module _ (policy : Policy) (block img key value : List ℕ) {x : Examined} (ex : x ≡ asked block img (anEntry key value)) where
+  pub store-refused : (s : Stage) → x ≡ Refused s → record { answer = answer.Refused s; image = img } ≡ store policy block img key value
   unfolding store storing
-  store-refused s e = ap (storing img key value) (sym e ∙ ex)
+  store-refused s e = ap (storing policy img key value) (sym e ∙ ex)
 
   pub store-ready : (z : Shape) (c : Counts) → x ≡ Ready z c → {r : Answer} {img′ : List ℕ}
-      → record { answer = r; image = img′ } ≡ storeUnless z img key value (noRoom z img key value)
-      → record { answer = r; image = img′ } ≡ store block img key value
+      → record { answer = r; image = img′ } ≡ storeUnless policy z img key value (noRoom z img key value)
+      → record { answer = r; image = img′ } ≡ store policy block img key value
   unfolding store storing
-  store-ready z c e er = er ∙ ap (storing img key value) (sym e ∙ ex)
+  store-ready z c e er = er ∙ ap (storing policy img key value) (sym e ∙ ex)

@@ -87,7 +87,7 @@ module _ (block img : List ℕ) (m : Map) (h : Holds block img) (w : Weigh (mapO
   unfolding hasKey withKey
   keys key = omega (arith, howMany-total (pairsOf z img) (hasKey key), keys-once z img (h .sound) key)
 
-  marked : (c : Counts) → check block img ≡ record { outcome = outcome.Accepted c }
+  pub marked : (c : Counts) → check block img ≡ record { outcome = outcome.Accepted c }
       → c .chunks ≡ total m (λ p. chunksFor settings (length (p .key)) (length (p .value)))
   unfolding countsOf
   marked c e =

@@ -12,6 +12,7 @@ use Rattle.entries.specs.Keys.{KeyFits}
 use Rattle.entries.specs.Stored.{keyOf}
 use Rattle.entries.specs.Live.{live}
 use Rattle.entries.specs.Pairs.{Pair, pairOf, pairsOf}
+use Rattle.edit.specs.declared.Policy.{Policy}
 use Rattle.image.specs.declared.Stage.{Stage}
 use Rattle.image.specs.declared.Outcome.the-variants as outcome
 use Rattle.image.specs.declared.Verdict.{Verdict}
@@ -52,8 +53,8 @@ module _ (block img : List ℕ) (s : Stage) (e : check block img ≡ record { ou
   pub check-lookup : (key : List ℕ) → lookup block img key ≡ looked.Refused s
   check-lookup key = sym (lookup-refused block img key refl s (asked-refused (aKey key)))
 
-  pub check-store : (key value : List ℕ) → store block img key value ≡ record { answer = answer.Refused s; image = img }
-  check-store key value = sym (store-refused block img key value refl s (asked-refused (anEntry key value)))
+  pub check-store : (policy : Policy) (key value : List ℕ) → store policy block img key value ≡ record { answer = answer.Refused s; image = img }
+  check-store policy key value = sym (store-refused policy block img key value refl s (asked-refused (anEntry key value)))
 
 -- ---- on an accepted image
 
@@ -96,6 +97,6 @@ module _ (block img : List ℕ) (b : Bytes img) (a : Accepted block img) where
   lookup-none key fits g = demand2 block img b a .lookups key .none fits g
 
   -- a store leaves bytes
-  pub store-bytes : (key value : List ℕ) → Bytes key → Bytes value → Bytes (store block img key value .image)
+  pub store-bytes : (policy : Policy) (key value : List ℕ) → Bytes key → Bytes value → Bytes (store policy block img key value .image)
   unfolding leaves
-  store-bytes key value kb vb = step block img h (pairsOf z img) (λ F. refl) (stores key value) (kb, vb) .holds .sound .bytes
+  store-bytes policy key value kb vb = step block img h (pairsOf z img) (λ F. refl) (stores policy key value) (kb, vb) .holds .sound .bytes

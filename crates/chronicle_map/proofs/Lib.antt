@@ -12,5 +12,7 @@ pub mod Ended
 pub mod Refusing
 pub mod Altering
 pub mod LowMarks
+pub mod Replacing
+pub mod Viewing
 pub mod Worked
 pub mod Laws

@@ -9,11 +9,12 @@ use Rattle.lists.specs.Decide.{choose}
 use Rattle.words.specs.Bytes.{Bytes}
 use Rattle.layout.specs.declared.Shape.{Shape}
 use Rattle.entries.specs.declared.Live.{Live}
+use Rattle.edit.specs.declared.Policy.{Policy}
 use Rattle.image.specs.Check.{countsOf}
 use Rattle.counters.specs.LowMarks.{LowMarks}
 use Rattle.edit.specs.Edits.{find, noRoom, removeTiers, storeTiers}
 use Rattle.edit.proofs.Without.{remove-lows}
-use Rattle.edit.proofs.Storing.{store-lows}
+use Rattle.edit.proofs.Stored.{store-lows}
 use Rattle.chronicle_map.specs.Asked.{aKey, anEntry, GivenKeyFits, givenKeyFits?, GivenValueFits, givenValueFits?, afterValue, afterKey}
 use Rattle.chronicle_map.specs.Calls.{Edited, answerNumber, removeFound, removing, remove, storeUnless, storing, store}
 use Rattle.chronicle_map.specs.Demands.{Accepted, shape, LowMarksFollow}
@@ -28,21 +29,21 @@ module _ (block img : List ℕ) (h : Holds block img) where
   abbrev Follows : List ℕ → Edited → Type 0
   Follows changed x = answerNumber (x .answer) ≡ 0 → LowMarks z img (x .image) changed
 
-  module _ (key value : List ℕ) (keyBytes : Bytes key) (valueBytes : Bytes value) where
+  module _ (policy : Policy) (key value : List ℕ) (keyBytes : Bytes key) (valueBytes : Bytes value) where
     with-row : GivenKeyFits (z .settings) (anEntry key value) → GivenValueFits (z .settings) (anEntry key value) → (b : Bool)
-        → noRoom z img key value ≡ b → Follows (storeTiers z img key value) (storeUnless z img key value b)
+        → noRoom z img key value ≡ b → Follows (storeTiers policy z img key value) (storeUnless policy z img key value b)
     unfolding storeUnless
     with-row k v true e a = absurd (omega arith)
-    with-row k v false e a = store-lows z img key value (record { sound = h .sound; keyFits = k; valueFits = v }) keyBytes valueBytes e
+    with-row k v false e a = store-lows policy z img key value (record { sound = h .sound; keyFits = k; valueFits = v }) keyBytes valueBytes e
 
     with-value : GivenKeyFits (z .settings) (anEntry key value) → (d : Dec (GivenValueFits (z .settings) (anEntry key value)))
-        → Follows (storeTiers z img key value) (storing img key value (afterValue z (countsOf z img) (anEntry key value) d))
+        → Follows (storeTiers policy z img key value) (storing policy img key value (afterValue z (countsOf z img) (anEntry key value) d))
     unfolding choose afterValue storing
     with-value k (no n) a = absurd (omega arith)
     with-value k (yes v) a = with-row k v (noRoom z img key value) refl a
 
     with-key : (d : Dec (GivenKeyFits (z .settings) (anEntry key value)))
-        → Follows (storeTiers z img key value) (storing img key value (afterKey z (countsOf z img) (anEntry key value) d))
+        → Follows (storeTiers policy z img key value) (storing policy img key value (afterKey z (countsOf z img) (anEntry key value) d))
     unfolding choose afterKey storing
     with-key (no n) a = absurd (omega arith)
     with-key (yes k) a = with-value k (givenValueFits? (z .settings) (anEntry key value)) a
@@ -62,8 +63,8 @@ module _ (block img : List ℕ) (h : Holds block img) where
   unfolding store remove
   follow =
       record {
-        stored = λ key value kb vb.
-            rw (asked-holds block img h (anEntry key value)) (with-key key value kb vb (givenKeyFits? (z .settings) (anEntry key value)));
+        stored = λ policy key value kb vb.
+            rw (asked-holds block img h (anEntry key value)) (with-key policy key value kb vb (givenKeyFits? (z .settings) (anEntry key value)));
         removed = λ key. rw (asked-holds block img h (aKey key)) (removal-key key (givenKeyFits? (z .settings) (aKey key)));
       }
 

@@ -14,6 +14,7 @@ use Rattle.layout.specs.declared.Shape.{Shape}
 use Rattle.entries.specs.Keys.{KeyFits}
 use Rattle.entries.specs.declared.Live.{Live}
 use Rattle.entries.specs.Live.{live}
+use Rattle.edit.specs.declared.Policy.{Policy}
 use Rattle.image.specs.declared.Counts.{Counts}
 use Rattle.image.specs.declared.Nth.{Nth}
 use Rattle.image.specs.declared.Nth.the-variants.{At, After}
@@ -122,22 +123,22 @@ module _ (img key : List ℕ) where
       by-find none n = refl
       by-find (some e) n = absurd (n refl)
 
-  module _ (value : List ℕ) where
-    store-answers : (x : Examined) → Most 9 x → Answers (0 ∷ span 2 9) (answerNumber (storing img key value x .answer) ∷ [])
+  module _ (policy : Policy) (value : List ℕ) where
+    store-answers : (x : Examined) → Most 9 x → Answers (0 ∷ span 2 9) (answerNumber (storing policy img key value x .answer) ∷ [])
     unfolding storing storeUnless
     store-answers (Refused s) w = other-answers 2 9 _ (stageNumber s) (stage-least s) (omega arith) refl
     store-answers (Ready z c) w = by-room (noRoom z img key value)
       where
-        by-room : (r : Bool) → Answers (0 ∷ span 2 9) (answerNumber (storeUnless z img key value r .answer) ∷ [])
+        by-room : (r : Bool) → Answers (0 ∷ span 2 9) (answerNumber (storeUnless policy z img key value r .answer) ∷ [])
         by-room true = other-answers 2 9 _ 10 (omega arith) (omega arith) refl
         by-room false = zero-answers 2 9 _
 
-    store-refused : (x : Examined) → answerNumber (storing img key value x .answer) ≢ 0 → storing img key value x .image ≡ img
+    store-refused : (x : Examined) → answerNumber (storing policy img key value x .answer) ≢ 0 → storing policy img key value x .image ≡ img
     unfolding storing storeUnless
     store-refused (Refused s) n = refl
     store-refused (Ready z c) n = by-room (noRoom z img key value) n
       where
-        by-room : (r : Bool) → answerNumber (storeUnless z img key value r .answer) ≢ 0 → storeUnless z img key value r .image ≡ img
+        by-room : (r : Bool) → answerNumber (storeUnless policy z img key value r .answer) ≢ 0 → storeUnless policy z img key value r .image ≡ img
         by-room true n = refl
         by-room false n = absurd (n refl)
 
@@ -152,12 +153,12 @@ looked-not-8 img key (Ready z c) n = by-find (find z img key)
     by-find none = omega arith
     by-find (some e) = omega arith
 
-stored-not-8 : (img key value : List ℕ) (x : Examined) → Not8 x → answerNumber (storing img key value x .answer) ≢ 8
+stored-not-8 : (policy : Policy) (img key value : List ℕ) (x : Examined) → Not8 x → answerNumber (storing policy img key value x .answer) ≢ 8
 unfolding storing storeUnless
-stored-not-8 img key value (Refused s) n = n
-stored-not-8 img key value (Ready z c) n = by-room (noRoom z img key value)
+stored-not-8 policy img key value (Refused s) n = n
+stored-not-8 policy img key value (Ready z c) n = by-room (noRoom z img key value)
   where
-    by-room : (r : Bool) → answerNumber (storeUnless z img key value r .answer) ≢ 8
+    by-room : (r : Bool) → answerNumber (storeUnless policy z img key value r .answer) ≢ 8
     by-room true = omega arith
     by-room false = omega arith
 
@@ -166,9 +167,9 @@ module _ (block img key : List ℕ) (fits : (st : Settings) → KeyFits st key) 
   unfolding lookup
   lookup-not-8 = looked-not-8 img key (asked block img (aKey key)) (asked-not-8 block img (aKey key) fits)
 
-  pub store-not-8 : (value : List ℕ) → answerNumber (store block img key value .answer) ≢ 8
+  pub store-not-8 : (policy : Policy) (value : List ℕ) → answerNumber (store policy block img key value .answer) ≢ 8
   unfolding store
-  store-not-8 value = stored-not-8 img key value (asked block img (anEntry key value)) (asked-not-8 block img (anEntry key value) fits)
+  store-not-8 policy value = stored-not-8 policy img key value (asked block img (anEntry key value)) (asked-not-8 block img (anEntry key value) fits)
 
 -- ---- all of it
 
@@ -180,10 +181,10 @@ demand1 block img =
       listAnswers = λ n. list-answers img n (examine block img) (examine-most block img);
       lookupAnswers = λ key. lookup-answers block img key (asked block img (aKey key)) (asked-most block img (aKey key)) refl;
       removalAnswers = λ key. removal-answers img key (asked block img (aKey key)) (asked-most block img (aKey key));
-      storeAnswers = λ key value. store-answers img key value (asked block img (anEntry key value)) (asked-most block img (anEntry key value));
+      storeAnswers = λ policy key value. store-answers img key policy value (asked block img (anEntry key value)) (asked-most block img (anEntry key value));
       noRecord = λ key. no-record (lookup block img key);
       removalRefused = λ key. removal-refused img key (asked block img (aKey key));
-      storeRefused = λ key value. store-refused img key value (asked block img (anEntry key value));
+      storeRefused = λ policy key value. store-refused img key policy value (asked block img (anEntry key value));
       stagesTold = stages-told;
       checksTold = checks-told;
       listsTold = lists-told;

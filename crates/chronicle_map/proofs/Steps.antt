@@ -14,6 +14,7 @@ use Rattle.layout.specs.Frame.{shapeOf}
 use Rattle.entries.specs.declared.Live.{Live}
 use Rattle.entries.specs.Pairs.{Pair, pairOf, pairsOf}
 use Rattle.sound.specs.Sound.{SoundImage}
+use Rattle.edit.specs.declared.Policy.{Policy}
 use Rattle.image.specs.declared.Examined.{Examined}
 use Rattle.image.specs.Check.{countsOf}
 use Rattle.edit.specs.Edits.{find, noRoom, storeImage}
@@ -22,7 +23,7 @@ use Rattle.chronicle_map.specs.Asked.{Given, aKey, anEntry, GivenKeyFits
 use Rattle.chronicle_map.specs.Calls.{numberOf, fromFind, lookedUp, lookup, lookupNumbers, recordAt, recordLength, recordBytes, Edited, answerNumber, removeFound, removing, remove, storeUnless, storing, store}
 use Rattle.chronicle_map.specs.History.{Call, looksUp, stores, removes, Said, says, leaves, row10, Map, hasKey, mapOf, mapGet, mapSet, mapDrop, Recalled, mapLookup, mapRemove, mapStore, unlessValue, unlessKey, unless, recall}
 use Rattle.edit.proofs.Without.{remove-sound, remove-pairs}
-use Rattle.edit.proofs.Storing.{store-sound, store-pairs}
+use Rattle.edit.proofs.Stored.{store-sound, store-pairs}
 use Rattle.chronicle_map.specs.Demands.{ByteCall, shape}
 use Rattle.chronicle_map.proofs.Weights.{Weigh, weigh-those}
 use Rattle.chronicle_map.proofs.Accepting.{Holds, holds-ready, holds-again, map-again}
@@ -99,34 +100,34 @@ module _ (block img : List ℕ) (h : Holds block img) (m : Map) (w : Weigh (mapO
   remove-agrees key (no n) = record { said = refl; holds = h; weighs = w }
   remove-agrees key (yes k) = removed key (find z img key) (mapGet m key) refl refl
 
-  module _ (key value : List ℕ) (keyBytes : Bytes key) (valueBytes : Bytes value) where
+  module _ (policy : Policy) (key value : List ℕ) (keyBytes : Bytes key) (valueBytes : Bytes value) where
     stored : GivenKeyFits (z .settings) (anEntry key value) → GivenValueFits (z .settings) (anEntry key value) → (b : Bool) → noRoom z img key value ≡ b
-        → Agrees (storeUnless z img key value b) (mapStore m key value b)
+        → Agrees (storeUnless policy z img key value b) (mapStore m key value b)
     unfolding storeUnless mapStore mapDrop hasKey total
     stored k v true e = record { said = refl; holds = h; weighs = w }
     stored k v false e =
         let s : Storable z img key value = record { sound = h .sound; keyFits = k; valueFits = v } in
-        let after : SoundImage z (storeImage z img key value) = store-sound z img key value s keyBytes valueBytes e in
+        let after : SoundImage z (storeImage policy z img key value) = store-sound policy z img key value s keyBytes valueBytes e in
         record {
           said = refl;
           holds = holds-again h after;
           weighs =
               subst (λ (l : List Pair). Weigh l (mapSet m key value)) (map-again h after)
               (λ F.
-              store-pairs z img key value s keyBytes valueBytes e F
+              store-pairs policy z img key value s keyBytes valueBytes e F
               ∙ ap (λ (n : ℕ). F (record { key = key; value = value }) + n) (weigh-those (λ p. not (same (p .key) key)) (pairsOf z img) m w F));
         }
 
     store-value : GivenKeyFits (z .settings) (anEntry key value) → (d : Dec (GivenValueFits (z .settings) (anEntry key value))) → (b : Bool)
         → noRoom z img key value ≡ b
-        → Agrees (storing img key value (afterValue z (countsOf z img) (anEntry key value) d))
+        → Agrees (storing policy img key value (afterValue z (countsOf z img) (anEntry key value) d))
         (unlessValue (z .settings) (anEntry key value) m (mapStore m key value b) d)
     unfolding choose afterValue storing unlessValue
     store-value k (no n) b e = record { said = refl; holds = h; weighs = w }
     store-value k (yes v) b e = rw e (stored k v b e)
 
     store-agrees : (d : Dec (GivenKeyFits (z .settings) (anEntry key value))) → (b : Bool) → noRoom z img key value ≡ b
-        → Agrees (storing img key value (afterKey z (countsOf z img) (anEntry key value) d))
+        → Agrees (storing policy img key value (afterKey z (countsOf z img) (anEntry key value) d))
         (unlessKey (z .settings) (anEntry key value) m (mapStore m key value b) d)
     unfolding choose afterKey storing unlessKey
     store-agrees (no n) b e = record { said = refl; holds = h; weighs = w }
@@ -151,8 +152,8 @@ module _ (block img : List ℕ) (h : Holds block img) (m : Map) (w : Weigh (mapO
       let a : Agrees (remove block img key) (unless (z .settings) (aKey key) m (mapRemove m key (mapGet m key))) =
       rw (asked-holds block img h (aKey key)) (remove-agrees key (givenKeyFits? (z .settings) (aKey key))) in
       record { said = a .said; holds = a .holds; weighs = a .weighs }
-  step (stores key value) b =
-      let a : Agrees (store block img key value) (unless (z .settings) (anEntry key value) m (mapStore m key value (noRoom z img key value))) =
+  step (stores policy key value) b =
+      let a : Agrees (store policy block img key value) (unless (z .settings) (anEntry key value) m (mapStore m key value (noRoom z img key value))) =
       rw (asked-holds block img h (anEntry key value))
-      (store-agrees key value (b .0) (b .1) (givenKeyFits? (z .settings) (anEntry key value)) (noRoom z img key value) refl) in
+      (store-agrees policy key value (b .0) (b .1) (givenKeyFits? (z .settings) (anEntry key value)) (noRoom z img key value) refl) in
       record { said = a .said; holds = a .holds; weighs = a .weighs }

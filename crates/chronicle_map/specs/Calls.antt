@@ -15,6 +15,7 @@ use Rattle.search.specs.Search.{firstEmpty}
 use Rattle.image.specs.declared.Examined.{Examined}
 use Rattle.image.specs.declared.Examined.the-variants.{Ready, Refused}
 use Rattle.image.specs.Check.{stageNumber}
+use Rattle.edit.specs.declared.Policy.{Policy}
 use Rattle.edit.specs.Edits.{find, removeImage, noRoom, storeImage}
 use Rattle.chronicle_map.specs.declared.RecordPlace.{RecordPlace}
 use Rattle.chronicle_map.specs.declared.SearchEnd.{SearchEnd}
@@ -106,14 +107,14 @@ removing img key (Ready z c) = removeFound z img key (find z img key)
 unfoldable pub remove : List ℕ → List ℕ → List ℕ → Edited
 remove block img key = removing img key (asked block img (aKey key))
 
--- where the row of 10 does not hold, the entry is stored
-unfoldable pub storeUnless : Shape → List ℕ → List ℕ → List ℕ → Bool → Edited
-storeUnless z img key value true = record { answer = answer.Full; image = img }
-storeUnless z img key value false = record { answer = answer.Done; image = storeImage z img key value }
+-- where the row of 10 does not hold, the entry is stored; whether it does is no matter of the policy
+unfoldable pub storeUnless : Policy → Shape → List ℕ → List ℕ → List ℕ → Bool → Edited
+storeUnless policy z img key value true = record { answer = answer.Full; image = img }
+storeUnless policy z img key value false = record { answer = answer.Done; image = storeImage policy z img key value }
 
-unfoldable pub storing : List ℕ → List ℕ → List ℕ → Examined → Edited
-storing img key value (Refused s) = record { answer = answer.Refused s; image = img }
-storing img key value (Ready z c) = storeUnless z img key value (noRoom z img key value)
+unfoldable pub storing : Policy → List ℕ → List ℕ → List ℕ → Examined → Edited
+storing policy img key value (Refused s) = record { answer = answer.Refused s; image = img }
+storing policy img key value (Ready z c) = storeUnless policy z img key value (noRoom z img key value)
 
-unfoldable pub store : List ℕ → List ℕ → List ℕ → List ℕ → Edited
-store block img key value = storing img key value (asked block img (anEntry key value))
+unfoldable pub store : Policy → List ℕ → List ℕ → List ℕ → List ℕ → Edited
+store policy block img key value = storing policy img key value (asked block img (anEntry key value))

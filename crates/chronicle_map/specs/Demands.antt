@@ -9,23 +9,26 @@ use lib.Dec.{eqb}
 use lib.ListN.{length, getD, take, drop, replicate}
 use Rattle.lists.specs.Lists.{howMany, total}
 use Rattle.lists.specs.Quantify.{Below}
-use Rattle.words.specs.Bytes.{Bytes}
+use Rattle.words.specs.Bytes.{Bytes, cut, Apart}
+use Rattle.leb128.specs.Leb128.{encode}
 use Rattle.settings.specs.declared.Settings.{Settings}
 use Rattle.settings.specs.Block.{BlockFits, settingsOf}
 use Rattle.layout.specs.declared.Shape.{Shape}
 use Rattle.layout.specs.Tiers.{IsExtra}
-use Rattle.layout.specs.Places.{mark}
+use Rattle.layout.specs.Places.{mark, chunkAt}
 use Rattle.layout.specs.Frame.{shapeOf}
 use Rattle.chains.specs.Chains.{chain, lastTier, chained, chainedExtra, freeChain}
 use Rattle.probe.specs.Ring.{dist}
 use Rattle.entries.specs.declared.Live.{Live}
 use Rattle.entries.specs.Keys.{KeyFits, segmentOf, lookupKey, start}
-use Rattle.entries.specs.Stored.{keyOf, chunksFor}
+use Rattle.entries.specs.Stored.{keyOf, chunksFor, longestValue, entryBytes}
 use Rattle.entries.specs.Live.{slotAt, live}
 use Rattle.chunks.specs.Chunks.{covers}
-use Rattle.entries.specs.Pairs.{Pair}
+use Rattle.entries.specs.Pairs.{Pair, pairOf}
 use Rattle.sound.specs.Sound.{ImageFits}
 use Rattle.counters.specs.LowMarks.{LowMarks}
+use Rattle.edit.specs.declared.Policy.{Policy}
+use Rattle.edit.specs.declared.Policy.the-variants.{OnTheSpot, Tight}
 use Rattle.edit.specs.Edits.{removeTiers, storeTiers}
 use Rattle.image.specs.declared.Counts.{Counts}
 use Rattle.image.specs.declared.Outcome.{Outcome}
@@ -86,14 +89,15 @@ pub record Demand1 (block img : List ℕ) : Type 0 where
       → LookupAnswers block img key (0 ∷ 1 ∷ 2 ∷ 3 ∷ 4 ∷ 5 ∷ 6 ∷ 7 ∷ 8 ∷ []) (lookupNumbers (lookup block img key))
   pub removalAnswers : (key : List ℕ)
       → Answers (0 ∷ 1 ∷ 2 ∷ 3 ∷ 4 ∷ 5 ∷ 6 ∷ 7 ∷ 8 ∷ []) (answerNumber (remove block img key .answer) ∷ [])
-  pub storeAnswers : (key value : List ℕ)
-      → Answers (0 ∷ 2 ∷ 3 ∷ 4 ∷ 5 ∷ 6 ∷ 7 ∷ 8 ∷ 9 ∷ 10 ∷ []) (answerNumber (store block img key value .answer) ∷ [])
+  pub storeAnswers : (policy : Policy) (key value : List ℕ)
+      → Answers (0 ∷ 2 ∷ 3 ∷ 4 ∷ 5 ∷ 6 ∷ 7 ∷ 8 ∷ 9 ∷ 10 ∷ []) (answerNumber (store policy block img key value .answer) ∷ [])
   -- without a record, the part that `record` answers is the empty one at offset 0
   pub noRecord : (key : List ℕ) → numberOf (lookupNumbers (lookup block img key)) ≢ 0
       → (recordAt (lookup block img key) ≡ 0) × (recordLength (lookup block img key) ≡ 0)
   -- an edit answered otherwise than 0 leaves every byte as it was
   pub removalRefused : (key : List ℕ) → answerNumber (remove block img key .answer) ≢ 0 → remove block img key .image ≡ img
-  pub storeRefused : (key value : List ℕ) → answerNumber (store block img key value .answer) ≢ 0 → store block img key value .image ≡ img
+  pub storeRefused : (policy : Policy) (key value : List ℕ) → answerNumber (store policy block img key value .answer) ≢ 0
+      → store policy block img key value .image ≡ img
   -- each refusal has a number of its own; two absent keys share theirs, wherever the searches ended
   pub stagesTold : Tells stageNumber
   pub checksTold : Tells (λ (v : Outcome). numberOf (outcomeNumbers v))
@@ -111,7 +115,7 @@ Accepted block img = (c : Counts) × (check block img ≡ record { outcome = out
 -- keys and records that are given are bytes
 abbrev pub ByteCall : Call → Type 0
 ByteCall (looksUp key) = Bytes key
-ByteCall (stores key value) = Bytes key × Bytes value
+ByteCall (stores policy key value) = Bytes key × Bytes value
 ByteCall (removes key) = Bytes key
 
 abbrev pub ByteCalls : List Call → Type 0
@@ -141,17 +145,66 @@ pub record Alters (block img img′ key : List ℕ) (p : Option Pair) : Type 0 w
 pub record Demand2 (block img : List ℕ) : Type 0 where
   pub lookups : (key : List ℕ) → LooksUp block img key
   -- a store or a removal answered 0 alters this key alone; one answered otherwise alters nothing (Demand1)
-  pub stored : (key value : List ℕ) → Bytes key → Bytes value → answerNumber (store block img key value .answer) ≡ 0
-      → Alters block img (store block img key value .image) key (some (record { key = key; value = value }))
+  pub stored : (policy : Policy) (key value : List ℕ) → Bytes key → Bytes value → answerNumber (store policy block img key value .answer) ≡ 0
+      → Alters block img (store policy block img key value .image) key (some (record { key = key; value = value }))
   pub removed : (key : List ℕ) → Bytes key → answerNumber (remove block img key .answer) ≡ 0 → Alters block img (remove block img key .image) key none
 
 -- ---- request A1, for an accepted image: the lowest free chunk fields after a store or a removal answered 0
 
 pub record LowMarksFollow (block img : List ℕ) : Type 0 where
-  pub stored : (key value : List ℕ) → Bytes key → Bytes value → answerNumber (store block img key value .answer) ≡ 0
-      → LowMarks (shape block img) img (store block img key value .image) (storeTiers (shape block img) img key value)
+  pub stored : (policy : Policy) (key value : List ℕ) → Bytes key → Bytes value → answerNumber (store policy block img key value .answer) ≡ 0
+      → LowMarks (shape block img) img (store policy block img key value .image) (storeTiers policy (shape block img) img key value)
   pub removed : (key : List ℕ) → answerNumber (remove block img key .answer) ≡ 0
       → LowMarks (shape block img) img (remove block img key .image) (removeTiers (shape block img) img key)
+
+-- the chunks that the keys and records of a map require: demand 3's sum
+abbrev pub chunksOfMap : Settings → Map → ℕ
+chunksOfMap st map = total map (λ p. chunksFor st (length (p .key)) (length (p .value)))
+
+-- ---- request A5, for an accepted image: a record stored under the key of a live entry e
+
+-- by both kinds of store, where the new entry takes as many chunks as e
+module _ (block img key value : List ℕ) (e : Live) where
+  abbrev st : Settings
+  st = settingsOf block
+
+  abbrev after : Policy → List ℕ
+  after policy = store policy block img key value .image
+
+  abbrev liveAfter : List Live
+  liveAfter = live (shape block (after OnTheSpot)) (after OnTheSpot)
+
+  -- where the entry's own bytes start
+  abbrev entryStart : ℕ
+  entryStart = chunkAt (shape block img) (e .tier) (e .chunk)
+
+  pub record SameSize : Type 0 where
+    pub done : (policy : Policy) → answerNumber (store policy block img key value .answer) ≡ 0
+    -- both leave the same map, with the same sum of chunks, which the check counts
+    pub sameMap : (other : List ℕ) → mapGet (mapOf block (after OnTheSpot)) other ≡ mapGet (mapOf block (after Tight)) other
+    pub sameSum : chunksOfMap st (mapOf block (after OnTheSpot)) ≡ chunksOfMap st (mapOf block (after Tight))
+    pub sameMarked : (c d : Counts) → check block (after OnTheSpot) ≡ record { outcome = outcome.Accepted c }
+        → check block (after Tight) ≡ record { outcome = outcome.Accepted d } → c .chunks ≡ d .chunks
+    -- on the spot no byte outside the new entry's own is written
+    pub outside : (at n : ℕ) → Apart at n entryStart (length (entryBytes st key value)) → cut (after OnTheSpot) at n ≡ cut img at n
+    -- every other key keeps its entry, with its tier, slot, chunks and offsets, and what a lookup of it answered is still right
+    pub others : (o : Live) → List·Memᴰ o (live (shape block img) img) → keyOf img (o .entry) ≢ key
+        → List·Memᴰ o liveAfter × (pairOf (after OnTheSpot) o ≡ pairOf img o)
+    pub lookups : (other : List ℕ) → other ≢ key → lookup block (after OnTheSpot) other ≡ lookup block img other
+    -- this key keeps its tier, slot and chunks, and its offset where the length of the length is as before
+    pub own : Live
+    pub ownLive : List·Memᴰ own liveAfter
+    pub ownPair : pairOf (after OnTheSpot) own ≡ record { key = key; value = value }
+    pub ownPlace : (own .tier ≡ e .tier) × (own .slot ≡ e .slot) × (own .chunk ≡ e .chunk) × (own .chunks ≡ e .chunks)
+    pub ownOffset : length (encode (length value)) ≡ length (encode (e .entry .valueLength)) → own .entry .valueAt ≡ e .entry .valueAt
+
+pub record Replacements (block img : List ℕ) : Type 0 where
+  -- neither kind answers 10 where the new entry takes as many chunks as the old one, or fewer
+  pub neverFull : (policy : Policy) (e : Live) → List·Memᴰ e (live (shape block img) img) → (key value : List ℕ) → keyOf img (e .entry) ≡ key
+      → chunksFor (settingsOf block) (length key) (length value) ≤ e .chunks → answerNumber (store policy block img key value .answer) ≢ 10
+  pub sameSize : (e : Live) → List·Memᴰ e (live (shape block img) img) → (key value : List ℕ) → keyOf img (e .entry) ≡ key
+      → Bytes key → Bytes value → length value ≤ longestValue → chunksFor (settingsOf block) (length key) (length value) ≡ e .chunks
+      → SameSize block img key value e
 
 -- ---- demand 3, for an accepted image and any list of calls
 
@@ -176,8 +229,7 @@ pub record Kept (block img : List ℕ) (calls : List Call) (after : List ℕ) (m
   pub tiersOnce : (t : ℕ) → IsExtra (shape block after) t
       → howMany (chainedExtra (shape block after) after ++ freeChain (shape block after) after) (eqb t) ≡ 1
   -- the marked chunks that the check counts are the chunks that the map's keys and records require
-  pub markedChunks : (c : Counts) → check block after ≡ record { outcome = outcome.Accepted c }
-      → c .chunks ≡ total map (λ p. chunksFor (settingsOf block) (length (p .key)) (length (p .value)))
+  pub markedChunks : (c : Counts) → check block after ≡ record { outcome = outcome.Accepted c } → c .chunks ≡ chunksOfMap (settingsOf block) map
 
 abbrev pub Keeps : List ℕ → List ℕ → List Call → Type 0
 Keeps block img calls = Kept block img calls (run block img calls) (mapAfter (settingsOf block) (mapOf block img) calls (told block img calls))

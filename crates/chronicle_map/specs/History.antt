@@ -10,13 +10,14 @@ use Rattle.settings.specs.declared.Settings.{Settings}
 use Rattle.settings.specs.Block.{settingsOf}
 use Rattle.layout.specs.Frame.{shapeOf}
 use Rattle.entries.specs.Pairs.{Pair, pairsOf}
+use Rattle.edit.specs.declared.Policy.{Policy}
 use Rattle.edit.specs.Edits.{noRoom}
 use Rattle.chronicle_map.specs.Asked.{Given, aKey, anEntry, GivenKeyFits, givenKeyFits?, GivenValueFits, givenValueFits?}
 use Rattle.chronicle_map.specs.Calls.{numberOf, lookup, lookupNumbers, recordBytes, remove, store, answerNumber}
 
 pub data Call : Type 0 where
   looksUp : List ℕ → Call
-  stores : List ℕ → List ℕ → Call
+  stores : Policy → List ℕ → List ℕ → Call
   removes : List ℕ → Call
 
 -- the number, and a lookup's record (empty where there is none)
@@ -30,18 +31,18 @@ module _ (block : List ℕ) where
   -- what one call answers, and the image as it leaves it
   unfoldable pub says : List ℕ → Call → Said
   says img (looksUp key) = record { number = numberOf (lookupNumbers (lookup block img key)); bytes = recordBytes img (lookup block img key) }
-  says img (stores key value) = record { number = answerNumber (store block img key value .answer); bytes = [] }
+  says img (stores policy key value) = record { number = answerNumber (store policy block img key value .answer); bytes = [] }
   says img (removes key) = record { number = answerNumber (remove block img key .answer); bytes = [] }
 
   unfoldable pub leaves : List ℕ → Call → List ℕ
   leaves img (looksUp key) = img
-  leaves img (stores key value) = store block img key value .image
+  leaves img (stores policy key value) = store policy block img key value .image
   leaves img (removes key) = remove block img key .image
 
   -- whether the row of 10 holds for the image that a store gets
   unfoldable pub row10 : List ℕ → Call → Bool
   row10 img (looksUp key) = false
-  row10 img (stores key value) = noRoom (shapeOf (settingsOf block) img) img key value
+  row10 img (stores policy key value) = noRoom (shapeOf (settingsOf block) img) img key value
   row10 img (removes key) = false
 
   -- a list of calls, each on the image as the last one left it
@@ -111,7 +112,7 @@ unless st g m r = unlessKey st g m r (givenKeyFits? st g)
 
 unfoldable pub recall : Settings → Map → Call → Bool → Recalled
 recall st m (looksUp key) row = unless st (aKey key) m (mapLookup m (mapGet m key))
-recall st m (stores key value) row = unless st (anEntry key value) m (mapStore m key value row)
+recall st m (stores policy key value) row = unless st (anEntry key value) m (mapStore m key value row)
 recall st m (removes key) row = unless st (aKey key) m (mapRemove m key (mapGet m key))
 
 -- fed a list of calls, each with what it is told

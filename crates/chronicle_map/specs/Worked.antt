@@ -1,13 +1,17 @@
 -- The worked store X: the cases p1 to p10 of the scope and those of the requests that followed as one list, each an image, the calls made
 -- on it, a question and what is due.
-use Prim.Native.Nat.{ℕ}
+use Prim.Native.Nat.{ℕ, suc}
 use mathlib.Core.List.{List, [], _∷_, _++_, map}
+use mathlib.Core.Bool.{true, false}
+use lib.Dec.{eqb}
 use lib.ListN.{replicate}
 use Rattle.words.specs.Bytes.{cut}
 use Rattle.words.specs.Numbers.{putLe}
 use Rattle.settings.specs.Worked.{fieldsX, blockWith}
 use Rattle.image.specs.Check.{check, verdictNumbers}
 use Rattle.image.specs.List.{entry, listedNumbers}
+use Rattle.edit.specs.declared.Policy.{Policy}
+use Rattle.edit.specs.declared.Policy.the-variants.{OnTheSpot, Tight}
 use Rattle.chronicle_map.specs.Calls.{lookup, lookupNumbers, recordBytes}
 use Rattle.chronicle_map.specs.History.{Call, stores, removes, Said, run, answers}
 
@@ -31,28 +35,28 @@ abbrev pub four : ℕ → List ℕ
 four n = n ∷ n ∷ n ∷ n ∷ []
 
 abbrev pub after2 : List Call
-after2 = stores (pair 1 2) (16 ∷ 0 ∷ 0 ∷ 0 ∷ []) ∷ []
+after2 = stores OnTheSpot (pair 1 2) (16 ∷ 0 ∷ 0 ∷ 0 ∷ []) ∷ []
 
 abbrev pub after3 : List Call
-after3 = after2 ++ (stores (pair 2 1) (240 ∷ 255 ∷ 255 ∷ 255 ∷ []) ∷ [])
+after3 = after2 ++ (stores OnTheSpot (pair 2 1) (240 ∷ 255 ∷ 255 ∷ 255 ∷ []) ∷ [])
 
 abbrev pub after4 : List Call
-after4 = after3 ++ (stores (pair 3 1) (four 31) ∷ [])
+after4 = after3 ++ (stores OnTheSpot (pair 3 1) (four 31) ∷ [])
 
 abbrev pub store5 : List Call
-store5 = stores (pair 1 3) (four 13) ∷ []
+store5 = stores OnTheSpot (pair 1 3) (four 13) ∷ []
 
 abbrev pub after5 : List Call
 after5 = after4 ++ store5
 
 abbrev pub after6 : List Call
-after6 = after5 ++ (stores (pair 4 1) (four 41) ∷ stores (pair 5 1) (four 51) ∷ stores (pair 6 1) (four 61) ∷ [])
+after6 = after5 ++ (stores OnTheSpot (pair 4 1) (four 41) ∷ stores OnTheSpot (pair 5 1) (four 51) ∷ stores OnTheSpot (pair 6 1) (four 61) ∷ [])
 
 abbrev pub after7 : List Call
 after7 = after4 ++ (removes (pair 1 2) ∷ [])
 
 abbrev pub after8 : List Call
-after8 = after4 ++ (stores (pair 1 2) (1 ∷ 2 ∷ 3 ∷ 4 ∷ 5 ∷ []) ∷ [])
+after8 = after4 ++ (stores OnTheSpot (pair 1 2) (1 ∷ 2 ∷ 3 ∷ 4 ∷ 5 ∷ []) ∷ [])
 
 -- the image after some calls, and then another number in the first byte of the main tier's lowest free chunk field
 abbrev pub withLow : List ℕ → List Call → ℕ → List ℕ
@@ -67,11 +71,31 @@ without21 = store5 ++ (removes (pair 2 1) ∷ [])
 
 -- two entries of four chunks each: no chunk is clear
 abbrev pub filled : List Call
-filled = stores (pair 1 2) (replicate 28 0) ∷ stores (pair 2 1) (replicate 28 0) ∷ []
+filled = stores OnTheSpot (pair 1 2) (replicate 28 0) ∷ stores OnTheSpot (pair 2 1) (replicate 28 0) ∷ []
 
 -- 01 02 with five bytes in chunks 0 and 1, then with four
 abbrev pub shorter : List Call
-shorter = stores (pair 1 2) (1 ∷ 2 ∷ 3 ∷ 4 ∷ 5 ∷ []) ∷ stores (pair 1 2) (four 12) ∷ []
+shorter = stores OnTheSpot (pair 1 2) (1 ∷ 2 ∷ 3 ∷ 4 ∷ 5 ∷ []) ∷ stores OnTheSpot (pair 1 2) (four 12) ∷ []
+
+-- 01 02 with 20 00 00 00, by a policy; and with the one byte 07
+abbrev pub with20 : Policy → List Call
+with20 policy = stores policy (pair 1 2) (32 ∷ 0 ∷ 0 ∷ 0 ∷ []) ∷ []
+
+abbrev pub with7 : List Call
+with7 = stores OnTheSpot (pair 1 2) (7 ∷ []) ∷ []
+
+-- X without its bulk: no tier but the main one
+abbrev pub smallX : List ℕ
+smallX = putLe (putLe (replicate 296 0) 21 4 64) 25 8 296
+
+-- 02 01 is left in chunk 2 with chunks 0 and 1 clear, and replaced by a policy; then two stores of 3 and 4 chunks
+abbrev pub replaced : Policy → List Call
+replaced policy =
+    stores OnTheSpot (pair 1 2) (replicate 12 0) ∷ stores OnTheSpot (pair 2 1) (four 21) ∷ removes (pair 1 2)
+    ∷ stores policy (pair 2 1) (four 22) ∷ []
+
+abbrev pub later : List Call
+later = stores OnTheSpot (pair 3 1) (replicate 20 0) ∷ stores OnTheSpot (pair 1 3) (replicate 28 0) ∷ []
 
 -- ---- a case: calls made on an image, then a question, and what is due
 
@@ -84,6 +108,14 @@ pub data Asks : Type 0 where
   bytes : ℕ → ℕ → Asks
   -- the numbers that the calls answered
   answered : Asks
+  -- the offset and the new value of each byte that more calls change
+  changes : List Call → Asks
+
+-- where the second list has other bytes than the first, with those, from an offset on
+abbrev pub changed : ℕ → List ℕ → List ℕ → List ℕ
+changed at [] ys = []
+changed at (x ∷ xs) [] = []
+changed at (x ∷ xs) (y ∷ ys) = elim (eqb x y) [ true ↦ changed (suc at) xs ys | false ↦ at ∷ y ∷ changed (suc at) xs ys ]
 
 pub data Case : Type 0 where
   case : List ℕ → List Call → Asks → List ℕ → Case
@@ -94,6 +126,7 @@ reply img now calls (lists n) = listedNumbers (entry blockX now n)
 reply img now calls (finds key) = lookupNumbers (lookup blockX now key) ++ recordBytes now (lookup blockX now key)
 reply img now calls (bytes at n) = cut now at n
 reply img now calls answered = map (λ (s : Said). s .number) (answers blockX img calls)
+reply img now calls (changes more) = changed 0 now (run blockX now more)
 
 abbrev pub got : Case → List ℕ
 got (case img calls q d) = reply img (run blockX img calls) calls q
@@ -157,8 +190,8 @@ cases =
     ∷ case imageX after8 (finds (pair 1 2)) (0 ∷ 260 ∷ 5 ∷ 1 ∷ 3 ∷ 1 ∷ 2 ∷ 3 ∷ 4 ∷ 5 ∷ [])
     ∷ case imageX after8 (finds (pair 2 1)) (0 ∷ 244 ∷ 4 ∷ 1 ∷ 1 ∷ 240 ∷ 255 ∷ 255 ∷ 255 ∷ [])
     -- p9: 28 bytes take 4 chunks, 29 are refused
-    ∷ case imageX (stores (pair 1 2) (replicate 28 9) ∷ []) (lists 0) (0 ∷ 0 ∷ 1 ∷ 1 ∷ 0 ∷ 4 ∷ 2 ∷ 28 ∷ [])
-    ∷ case imageX (stores (pair 1 2) (replicate 29 9) ∷ []) answered (9 ∷ [])
+    ∷ case imageX (stores OnTheSpot (pair 1 2) (replicate 28 9) ∷ []) (lists 0) (0 ∷ 0 ∷ 1 ∷ 1 ∷ 0 ∷ 4 ∷ 2 ∷ 28 ∷ [])
+    ∷ case imageX (stores OnTheSpot (pair 1 2) (replicate 29 9) ∷ []) answered (9 ∷ [])
     -- p10
     ∷ case (sized 495) [] checks (4 ∷ 0 ∷ 0 ∷ 0 ∷ 0 ∷ [])
     ∷ case (putLe imageX 224 1 1) [] checks (7 ∷ 0 ∷ 0 ∷ 0 ∷ 0 ∷ [])
@@ -183,10 +216,10 @@ cases =
     ∷ case (withLow imageX filled 7) [] checks (7 ∷ 0 ∷ 0 ∷ 0 ∷ 0 ∷ [])
     ∷ case (withLow imageX filled 0) [] checks (7 ∷ 0 ∷ 0 ∷ 0 ∷ 0 ∷ [])
     ∷ case (withLow imageX filled 9) [] checks (7 ∷ 0 ∷ 0 ∷ 0 ∷ 0 ∷ [])
-    -- a replacement in the chunk that it frees writes the exact number
-    ∷ case (withLow imageX after2 0) (stores (pair 1 2) (four 12) ∷ []) (bytes 76 4) (1 ∷ 0 ∷ 0 ∷ 0 ∷ [])
+    -- a tight replacement in the chunk that it frees writes the exact number
+    ∷ case (withLow imageX after2 0) (stores Tight (pair 1 2) (four 12) ∷ []) (bytes 76 4) (1 ∷ 0 ∷ 0 ∷ 0 ∷ [])
     -- the old entry's chunks are below the field, and the new one goes there
-    ∷ case imageX (after4 ++ (stores (pair 1 2) (four 12) ∷ [])) (lists 2) (0 ∷ 0 ∷ 1 ∷ 3 ∷ 0 ∷ 1 ∷ 2 ∷ 4 ∷ [])
+    ∷ case imageX (after4 ++ (stores Tight (pair 1 2) (four 12) ∷ [])) (lists 2) (0 ∷ 0 ∷ 1 ∷ 3 ∷ 0 ∷ 1 ∷ 2 ∷ 4 ∷ [])
     ∷ case imageX shorter (lists 0) (0 ∷ 0 ∷ 1 ∷ 1 ∷ 0 ∷ 1 ∷ 2 ∷ 4 ∷ [])
     -- A6: tier and slot of an entry; of an absent key the last tier and the empty slot that ended the search, which may wrap
     ∷ case imageX after2 (finds (pair 1 2)) (0 ∷ 236 ∷ 4 ∷ 1 ∷ 1 ∷ 16 ∷ 0 ∷ 0 ∷ 0 ∷ [])
@@ -197,4 +230,29 @@ cases =
     ∷ case imageX after5 (finds []) (8 ∷ 0 ∷ 0 ∷ 0 ∷ 0 ∷ [])
     ∷ case (putLe (run blockX imageX after5) 224 1 0) [] (finds (pair 1 3)) (7 ∷ 0 ∷ 0 ∷ 0 ∷ 0 ∷ [])
     ∷ case (putLe (run blockX imageX after5) 224 1 0) [] (finds (pair 4 1)) (7 ∷ 0 ∷ 0 ∷ 0 ∷ 0 ∷ [])
+    -- A5: on the spot the record's first byte changes and nothing else; then the length and one byte, and the old record's tail stays
+    ∷ case imageX after4 (changes (with20 OnTheSpot)) (236 ∷ 32 ∷ [])
+    ∷ case imageX (after4 ++ with20 OnTheSpot ++ with7) answered (0 ∷ 0 ∷ 0 ∷ 0 ∷ 0 ∷ [])
+    ∷ case imageX (after4 ++ with20 OnTheSpot ++ with7) (bytes 232 8) (2 ∷ 1 ∷ 2 ∷ 1 ∷ 7 ∷ 0 ∷ 0 ∷ 0 ∷ [])
+    ∷ case imageX (after4 ++ with20 OnTheSpot ++ with7) (finds (pair 1 2)) (0 ∷ 236 ∷ 1 ∷ 1 ∷ 1 ∷ 7 ∷ [])
+    -- tight, slots 1 to 3 change too: the entry moves to slot 3, and to the chunk that it freed
+    ∷ case imageX after4 (changes (with20 Tight)) (100 ∷ 3 ∷ 104 ∷ 5 ∷ 108 ∷ 1 ∷ 236 ∷ 32 ∷ [])
+    -- the lowest free chunk field is left on the spot, though it lags; a tight store writes it
+    ∷ case lagging4 (with20 OnTheSpot) (bytes 76 4) (0 ∷ 0 ∷ 0 ∷ 0 ∷ [])
+    ∷ case (withLow imageX after2 0) (with20 Tight) (bytes 76 4) (1 ∷ 0 ∷ 0 ∷ 0 ∷ [])
+    ∷ case (withLow imageX after2 0) (with20 Tight) (lists 0) (0 ∷ 0 ∷ 1 ∷ 1 ∷ 0 ∷ 1 ∷ 2 ∷ 4 ∷ [])
+    -- a record of two chunks moves, one of one chunk moves back: chunks are compared, not bytes
+    ∷ case imageX (after4 ++ shorter) (bytes 96 16) (0 ∷ 0 ∷ 0 ∷ 0 ∷ 3 ∷ 0 ∷ 0 ∷ 0 ∷ 5 ∷ 0 ∷ 0 ∷ 0 ∷ 1 ∷ 0 ∷ 0 ∷ 0 ∷ [])
+    ∷ case imageX (after4 ++ shorter) (bytes 224 1) (7 ∷ [])
+    ∷ case imageX (after4 ++ (stores OnTheSpot (pair 1 2) (replicate 9 9) ∷ [])) (lists 2) (0 ∷ 0 ∷ 1 ∷ 3 ∷ 3 ∷ 2 ∷ 2 ∷ 9 ∷ [])
+    ∷ case imageX (after4 ++ (stores OnTheSpot (pair 1 2) (replicate 9 9) ∷ stores OnTheSpot (pair 1 2) (four 12) ∷ [])) (lists 2)
+    (0 ∷ 0 ∷ 1 ∷ 3 ∷ 0 ∷ 1 ∷ 2 ∷ 4 ∷ [])
+    -- after one such replacement later stores may differ in 10
+    ∷ case smallX (replaced OnTheSpot) (bytes 224 1) (4 ∷ [])
+    ∷ case smallX (replaced Tight) (bytes 224 1) (1 ∷ [])
+    ∷ case smallX (replaced OnTheSpot ++ later) answered (0 ∷ 0 ∷ 0 ∷ 0 ∷ 0 ∷ 10 ∷ [])
+    ∷ case smallX (replaced Tight ++ later) answered (0 ∷ 0 ∷ 0 ∷ 0 ∷ 0 ∷ 0 ∷ [])
+    ∷ case smallX (replaced OnTheSpot ++ later) (bytes 224 1) (60 ∷ [])
+    ∷ case smallX (replaced Tight ++ later) (bytes 224 1) (255 ∷ [])
+    ∷ case smallX (replaced Tight ++ later) (bytes 76 4) (8 ∷ 0 ∷ 0 ∷ 0 ∷ [])
     ∷ []

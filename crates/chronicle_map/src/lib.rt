@@ -1,4 +1,5 @@
 // The calls over a lent image. Each takes any bytes, checks them itself, and answers.
+use edit::Policy;
 use entries::ValueSize;
 use image::Examined;
 use image::Listed;
@@ -12,6 +13,7 @@ ghost use lib.ListN.{length};
 ghost use Rattle.entries.specs.Keys.{KeyFits};
 ghost use Rattle.entries.specs.Stored.{ValueFits};
 ghost use Rattle.sound.specs.Sound.{SoundImage};
+ghost use Rattle.edit.specs.declared.Policy.the-variants.{OnTheSpot, Tight};
 ghost use Rattle.edit.specs.Edits.{find, noRoom};
 ghost use Rattle.edit.specs.Replaced.{Storable};
 ghost use Rattle.image.specs.Check.{check as Check·check};
@@ -157,24 +159,41 @@ pub fn remove(block: &[u8], img: &mut [u8], key: &[u8]) -> Answer
 }
 
 // Stores a record under a key in an accepted image.
-fn store_accepted(z: Shape, img: &mut [u8], key: &[u8], value: &[u8]) -> Answer
+fn store_accepted(z: Shape, img: &mut [u8], key: &[u8], value: &[u8], policy: Policy) -> Answer
     requires { ⌜ Storable z (now img) (now key) (now value) ⌝ }
     ensures { λ r. ⌜ record { answer = r; image = now (img .exit) }
-        ≡ storeUnless z (now (img .entry)) (now (key .entry)) (now (value .entry)) (noRoom z (now (img .entry)) (now (key .entry)) (now (value .entry))) ⌝ }
+        ≡ storeUnless policy z (now (img .entry)) (now (key .entry)) (now (value .entry))
+        (noRoom z (now (img .entry)) (now (key .entry)) (now (value .entry))) ⌝ }
 {
-    if edit::store(z, img, key, value) {
+    if edit::store(z, img, key, value, policy) {
         return Answer::Done;
     }
     Answer::Full
 }
 
-// Stores a record under a key, or replaces the one that is there.
-pub fn store(block: &[u8], img: &mut [u8], key: &[u8], value: &[u8]) -> Answer
+// Stores a record under a key by a policy.
+fn store_by(block: &[u8], img: &mut [u8], key: &[u8], value: &[u8], policy: Policy) -> Answer
     ensures { λ r. ⌜ record { answer = r; image = now (img .exit) }
-        ≡ Calls·store (now (block .entry)) (now (img .entry)) (now (key .entry)) (now (value .entry)) ⌝ }
+        ≡ Calls·store policy (now (block .entry)) (now (img .entry)) (now (key .entry)) (now (value .entry)) ⌝ }
 {
     match asked_entry(block, img, key, value) {
         Examined::Refused(stage) => Answer::Refused(stage),
-        Examined::Ready(z, _) => store_accepted(z, img, key, value),
+        Examined::Ready(z, _) => store_accepted(z, img, key, value, policy),
     }
+}
+
+// Stores a record under a key, or replaces the one that is there: on the spot where the new entry takes as many chunks.
+pub fn store(block: &[u8], img: &mut [u8], key: &[u8], value: &[u8]) -> Answer
+    ensures { λ r. ⌜ record { answer = r; image = now (img .exit) }
+        ≡ Calls·store OnTheSpot (now (block .entry)) (now (img .entry)) (now (key .entry)) (now (value .entry)) ⌝ }
+{
+    store_by(block, img, key, value, Policy::OnTheSpot)
+}
+
+// The same, but an old entry is always removed first, in effect, and the new one goes to the lowest run that takes it.
+pub fn store_tight(block: &[u8], img: &mut [u8], key: &[u8], value: &[u8]) -> Answer
+    ensures { λ r. ⌜ record { answer = r; image = now (img .exit) }
+        ≡ Calls·store Tight (now (block .entry)) (now (img .entry)) (now (key .entry)) (now (value .entry)) ⌝ }
+{
+    store_by(block, img, key, value, Policy::Tight)
 }

@@ -4,6 +4,7 @@ use mathlib.Core.List.{List}
 use lib.IntN.{ℤ}
 use Rattle.image.specs.Check.{check, verdictNumbers}
 use Rattle.image.specs.List.{entry, listedNumbers}
+use Rattle.edit.specs.declared.Policy.{Policy}
 use Rattle.chronicle_map.specs.Calls.{lookup, lookupNumbers, answerNumber, store, remove}
 use Rattle.pairs.specs.Delays.{delay, Reply, askedReply, setDelay, setNumber}
 
@@ -24,11 +25,11 @@ delayAnswer block img a b = askedReply (delay block img a b)
 
 -- ---- the number that is returned, and every byte of the image on return
 
-abbrev pub storeAnswer : List ℕ → List ℕ → List ℕ → List ℕ → ℕ
-storeAnswer block img key value = answerNumber (store block img key value .answer)
+abbrev pub storeAnswer : Policy → List ℕ → List ℕ → List ℕ → List ℕ → ℕ
+storeAnswer policy block img key value = answerNumber (store policy block img key value .answer)
 
-abbrev pub storeLeaves : List ℕ → List ℕ → List ℕ → List ℕ → List ℕ
-storeLeaves block img key value = store block img key value .image
+abbrev pub storeLeaves : Policy → List ℕ → List ℕ → List ℕ → List ℕ → List ℕ
+storeLeaves policy block img key value = store policy block img key value .image
 
 abbrev pub removeAnswer : List ℕ → List ℕ → List ℕ → ℕ
 removeAnswer block img key = answerNumber (remove block img key .answer)

@@ -11,6 +11,7 @@ use pairs::SetAnswer;
 ghost use mathlib.Core.Path.{_≡_};
 ghost use mathlib.Core.List.{_∷_};
 ghost use Rattle.xxh64.specs.Hash.{xxh64 as Hash·xxh64};
+ghost use Rattle.edit.specs.declared.Policy.the-variants.{OnTheSpot, Tight};
 ghost use Rattle.chronicle_map.specs.Calls.{answerNumber};
 ghost use Rattle.pairs.specs.Delays.{Reply, setNumber};
 ghost use Rattle.chronicle_map_c.specs.Numbers.{checkAnswer, lookupAnswer, entryAnswer, delayAnswer, storeAnswer, storeLeaves, removeAnswer, removeLeaves, setDelayAnswer, setDelayLeaves};
@@ -92,13 +93,27 @@ pub extern "C" fn chronicle_map_lookup(
     }
 }
 
-// Stores a record under a key, or replaces the one that is there.
+// Stores a record under a key, or replaces the one that is there: on the spot where the new entry takes as many chunks.
 #[no_mangle]
 pub extern "C" fn chronicle_map_store(block: &[u8], img: &mut [u8], key: &[u8], value: &[u8]) -> u32
-    ensures { λ r. ⌜ r ≡ storeAnswer (now (block .entry)) (now (img .entry)) (now (key .entry)) (now (value .entry)) ⌝ }
-    ensures { λ _. ⌜ now (img .exit) ≡ storeLeaves (now (block .entry)) (now (img .entry)) (now (key .entry)) (now (value .entry)) ⌝ }
+    ensures { λ r. ⌜ r ≡ storeAnswer OnTheSpot (now (block .entry)) (now (img .entry)) (now (key .entry)) (now (value .entry)) ⌝ }
+    ensures { λ _. ⌜ now (img .exit) ≡ storeLeaves OnTheSpot (now (block .entry)) (now (img .entry)) (now (key .entry)) (now (value .entry)) ⌝ }
 {
     answer_number(chronicle_map::store(block, img, key, value))
+}
+
+// The tight store: the new entry always goes to the lowest run that takes it once the old one is out.
+#[no_mangle]
+pub extern "C" fn chronicle_map_store_tight(
+    block: &[u8],
+    img: &mut [u8],
+    key: &[u8],
+    value: &[u8],
+) -> u32
+    ensures { λ r. ⌜ r ≡ storeAnswer Tight (now (block .entry)) (now (img .entry)) (now (key .entry)) (now (value .entry)) ⌝ }
+    ensures { λ _. ⌜ now (img .exit) ≡ storeLeaves Tight (now (block .entry)) (now (img .entry)) (now (key .entry)) (now (value .entry)) ⌝ }
+{
+    answer_number(chronicle_map::store_tight(block, img, key, value))
 }
 
 // Removes the entry of a key.

@@ -48,7 +48,7 @@ module _ (z : Shape) where
         (λ (e : u ≡ t). rw e (recount-exact z img (c .0) t (c .1 .0) sound (c .1 .1)))
         (λ (ne : u ≢ t).
         ⊎-elim
-        (λ x. only .counts u is ne .low ∙ x ∙ sym (same-lowest z img (recount z img t) u (only .others u is ne)))
+        (λ x. only .counts u is ne .low ∙ x ∙ sym (same-lowest z img (recount z img t) u (only .others u is ne .marks)))
         (λ e. absurd (ne e))
         a)
         (same-or u t)

@@ -1,22 +1,17 @@
 -- The counters follow: a tier's entry count and lowest free chunk field, written anew, make the image sound.
-use Prim.Native.Nat.{ℕ, _-_, _/_, _%_, _<_}
-use mathlib.Core.List.{List, [], _∷_, List·Memᴰ, List·Memᴰ·head, List·Memᴰ·tail, List·Memᴰ·cases-cons}
+use Prim.Native.Nat.{ℕ, _<_}
+use mathlib.Core.List.{List, [], _∷_, List·Memᴰ, List·Memᴰ·head, List·Memᴰ·tail}
 use mathlib.Core.Path.{_≡_, refl, ap, sym, _∙_, subst}
-use mathlib.Core.Logic.{_≢_, ⊎-elim}
+use mathlib.Core.Logic.{_≢_}
 use native.Mathlib.Omega.{arith}
 use lib.ListN.{length}
-use Rattle.lists.specs.Cases.{same-or}
 use Rattle.lists.specs.Lists.{total}
 use Rattle.lists.specs.Quantify.{Every, every-cons, every-none}
-use Rattle.words.specs.Bits.{bitOf}
-use Rattle.settings.specs.declared.Settings.{Settings}
 use Rattle.layout.specs.declared.Shape.{Shape}
 use Rattle.layout.specs.Tiers.{IsTier}
 use Rattle.layout.specs.Places.{Global, firstFree, usedTiers, entryCount, lowestFree, nextTier, Counter, next, low, count, previous, segment, order, Place, global, tier, slot, counter, free, byte, counterNo, In, get, put, nextPlace, lowPlace, countPlace, _≔_, puts}
 use Rattle.layout.specs.Frame.{Image}
 use Rattle.layout.proofs.Places.{written, get-same, get-other, get-puts-other, image-put, image-puts, length-puts, shared-in, shared-never, shared-slot, shared-free, shared-byte, shared-tiers, shared-fields, global-lt}
-use Rattle.layout.proofs.Marks.{mark-get}
-use Rattle.layout.proofs.Chunks.{cut-chunks}
 use Rattle.chains.specs.Chains.{chain}
 use Rattle.chains.proofs.Chained.{IsChained}
 use Rattle.entries.specs.Live.{fullSlots}
@@ -27,22 +22,17 @@ use Rattle.entries.specs.Pairs.{Pair, pairsOf}
 use Rattle.sound.specs.Sound.{SoundImage, SoundBut}
 use Rattle.counters.specs.Recount.{recount, settle}
 use Rattle.chains.proofs.Tiers.{chain-tiers}
-use Rattle.sound.proofs.Sound.{sound-image, but-sound}
+use Rattle.sound.proofs.Sound.{sound-image, but-sound, but-less}
 use Rattle.counters.proofs.CountRoom.{count-room, low-room, full-few}
 use Rattle.sound.proofs.AgreeTier.{SameTier, same-full, same-lowest, same-weigh}
 use Rattle.chains.proofs.AgreeChains.{SameChains, same-chain}
 use Rattle.sound.proofs.Replaced.{OnlyTier, tier-stays, tier-replaced, pairs-replaced}
+use Rattle.sound.proofs.Elsewhere.{tier-by-places}
 
 -- ---- what the two writes keep
 
-drop-other : {t u : ℕ} {ts : List ℕ} → u ≢ t → List·Memᴰ u (t ∷ ts) → List·Memᴰ u ts
-drop-other ne m = ⊎-elim (λ e. absurd (ne e)) (λ k. k) (List·Memᴰ·cases-cons m)
-
 module _ (z : Shape) (img : List ℕ) (s t : ℕ) (hs : s < z .settings .segments) {but : List ℕ} (sound : SoundBut z img (t ∷ but))
     (m : List·Memᴰ t (chain z img s)) where
-  open Shape z using (settings)
-  open Settings settings using (segments, slots, chunks, chunkSize)
-
   abbrev after : List ℕ
   after = recount z img t
 
@@ -82,21 +72,10 @@ module _ (z : Shape) (img : List ℕ) (s t : ℕ) (hs : s < z .settings .segment
   -- the slots, marks and chunks of each tier
   keeps-tier : (u : ℕ) → IsTier z u → SameTier z img after u
   keeps-tier u is =
-      let whole : chunks - 0 ≡ chunks = omega arith in
-      record {
-        slots = λ j h. keeps (tier u (slot j)) (is, h) (shared-slot z entryCount count t u j) (shared-slot z lowestFree low t u j);
-        marks =
-            λ i h.
-            mark-get z after u i
-            ∙ ap (λ (v : ℕ). bitOf v (i % 8)) (keeps (tier u (free (i / 8))) (is, omega arith) (shared-free z entryCount count t u (i / 8))
-            (shared-free z lowestFree low t u (i / 8)))
-            ∙ sym (mark-get z img u i);
-        bytes =
-            rw whole at
-            (cut-chunks z u after img 0 long
-            (λ i h. keeps (tier u (byte i)) (is, h) (shared-byte z entryCount count t u i) (shared-byte z lowestFree low t u i))
-            (omega arith));
-      }
+      tier-by-places z img after u long
+      (λ j h. keeps (tier u (slot j)) (is, h) (shared-slot z entryCount count t u j) (shared-slot z lowestFree low t u j))
+      (λ b h. keeps (tier u (free b)) (is, h) (shared-free z entryCount count t u b) (shared-free z lowestFree low t u b))
+      (λ i h. keeps (tier u (byte i)) (is, h) (shared-byte z entryCount count t u i) (shared-byte z lowestFree low t u i))
 
   keeps-chains : SameChains z img after
   keeps-chains =
@@ -156,39 +135,21 @@ module _ (z : Shape) (img : List ℕ) (s t : ℕ) (hs : s < z .settings .segment
       (omega (arith, low-room z t, lowest-few z img t, sound .fits .valid .chunks))
 
   pub recount-exact : lowField z (recount z img t) t ≡ lowestClear z (recount z img t) t
-  recount-exact = low-written ∙ sym (same-lowest z img after t recount-tier)
+  recount-exact = low-written ∙ sym (same-lowest z img after t (recount-tier .marks))
 
   written-counters : CountersFit z after t
   written-counters =
       record {
-        entryCount = count-written ∙ ap length (sym (same-full z img after t recount-tier));
+        entryCount = count-written ∙ ap length (sym (same-full z img after t (recount-tier .slots)));
         lowMark = low-mark-exact recount-exact;
       }
 
+  -- the tier was in the list, and the change put it there once more
   pub recount-sound : SoundBut z (recount z img t) but
   recount-sound =
-      let again : SoundBut z after (t ∷ t ∷ but) =
-      tier-replaced z img s t hs sound m after recount-only (tier-stays z img s t hs sound m after recount-tier) in
-      record {
-        bytes = again .bytes;
-        shape = again .shape;
-        fits = record {
-          valid = again .fits .valid;
-          frame = again .fits .frame;
-          chains = again .fits .chains;
-          entries = again .fits .entries;
-          chunks = record {
-            marks = again .fits .chunks .marks;
-            counters =
-                λ s′ h u mu out.
-                ⊎-elim
-                (λ (e : u ≡ t). rw e written-counters)
-                (λ (ne : u ≢ t). again .fits .chunks .counters s′ h u mu (λ k. out (drop-other ne (drop-other ne k))))
-                (same-or u t);
-            free = again .fits .chunks .free;
-          };
-        };
-      }
+      but-less z after written-counters
+      (but-less z after written-counters
+      (tier-replaced z img s t hs sound m after recount-only (tier-stays z img s t hs sound m after recount-tier)))
 
   pub recount-pairs : (F : Pair → ℕ) → total (pairsOf z (recount z img t)) F ≡ total (pairsOf z img) F
   recount-pairs F =

@@ -3,4 +3,10 @@ pub mod Without
 pub mod Storing
 pub mod Replacing
 pub mod Scanning
+pub mod Roomy
+pub mod Policies
+pub mod OnTheSpot
+pub mod Stored
+pub mod Views
 pub mod Storage
+pub mod Choosing

@@ -17,13 +17,13 @@ use Rattle.chains.specs.Chains.{chain}
 use Rattle.chains.proofs.Tiers.{chain-tiers}
 use Rattle.entries.specs.declared.Live.{Live}
 use Rattle.entries.specs.Keys.{KeyFits, segmentOf}
-use Rattle.entries.specs.Stored.{chunksFor, keyOf}
-use Rattle.entries.specs.Live.{chunkOf, entryAt, liveAt}
+use Rattle.entries.specs.Stored.{keyOf}
+use Rattle.entries.specs.Live.{chunkOf, liveAt}
 use Rattle.entries.proofs.LiveLists.{IsLive, live-in}
 use Rattle.search.specs.declared.Found.{Found}
 use Rattle.search.specs.declared.Found.the-variants.{At, Absent}
 use Rattle.search.specs.Search.{search, ChainTiers}
-use Rattle.search.specs.Rules.{EntryFits, keyAt}
+use Rattle.search.specs.Rules.{EntryFits, keyAt, chunksAt}
 use Rattle.chunks.specs.Chunks.{LowMarkFits}
 use Rattle.sound.specs.Sound.{SoundWith, SoundImage}
 use Rattle.counters.specs.Recount.{recount, settle, touched}
@@ -73,7 +73,7 @@ module _ (z : Shape) (img : List ℕ) {C : Type 0} (sound : SoundWith C z img) w
 
 module _ (z : Shape) (img : List ℕ) (sound : SoundImage z img) where
   open Shape z using (settings)
-  open Settings settings using (segments, slots, chunks)
+  open Settings settings using (segments, slots, chunks, mostChunks)
 
   pub sound-lows : Below segments (λ s. Every (chain z img s) (LowMarkFits z img))
   sound-lows s h t m = sound .fits .chunks .tiersFit s h t m .counters .lowMark
@@ -85,14 +85,19 @@ module _ (z : Shape) (img : List ℕ) (sound : SoundImage z img) where
   live-fits : (e : Live) → IsLive z img e → EntryFits z img (e .segment) (e .tier) (e .slot)
   live-fits e l = sound .fits .entries .tiersFit (e .segment) (l .segmentIn) (e .tier) (l .tierIn) .slotsFit .full (e .slot) (l .slotIn) (l .full)
 
-  live-range : (e : Live) → IsLive z img e → e .chunk + e .chunks ≤ chunks
+  live-chunks : (e : Live) → IsLive z img e → e .chunks ≡ chunksAt z img (e .tier) (e .slot)
+  unfolding liveAt
+  live-chunks e l = ap (λ (x : Live). x .chunks) (l .is)
+
+  pub live-range : (e : Live) → IsLive z img e → e .chunk + e .chunks ≤ chunks
   unfolding liveAt
   live-range e l =
       let c : e .chunk ≡ chunkOf z img (e .tier) (e .slot) = ap (λ (x : Live). x .chunk) (l .is) in
-      let n : e .chunks
-      ≡ chunksFor settings (entryAt z img (e .tier) (e .slot) .keyLength) (entryAt z img (e .tier) (e .slot) .valueLength) =
-      ap (λ (x : Live). x .chunks) (l .is) in
-      omega (arith, c, n, live-fits e l .rangeEnds)
+      omega (arith, c, live-chunks e l, live-fits e l .rangeEnds)
+
+  -- no more chunks than an entry may cover
+  pub live-most : (e : Live) → IsLive z img e → e .chunks ≤ mostChunks
+  live-most e l = omega (arith, live-chunks e l, live-fits e l .valueFits .notTooMany)
 
   -- its record stands within the image, and its key is as long as keys are
   pub live-value : (e : Live) → IsLive z img e → e .entry .valueAt + e .entry .valueLength ≤ length img

@@ -22,16 +22,18 @@ use Rattle.sound.specs.Sound.{SoundWith, SoundImage, SoundBut}
 use Rattle.counters.specs.Recount.{settle, touched}
 use Rattle.placement.specs.declared.Old.{Old}
 use Rattle.placement.specs.declared.Run.the-variants.{At, Nowhere}
+use Rattle.placement.specs.declared.walk.Walk.{Walk}
 use Rattle.placement.specs.declared.walk.EntryPlace.{EntryPlace}
-use Rattle.placement.specs.Asking.{KnownFor, CanWalk}
-use Rattle.placement.specs.Walking.{PlaceIs}
+use Rattle.placement.specs.Asking.{KnownFor, CanScanRest, CanWalk}
+use Rattle.placement.specs.Walking.{PlaceIs, PlaceAfter}
 use Rattle.placement.specs.Placement.{placeAt}
-use Rattle.placement.proofs.Walking.{not-known}
+use Rattle.placement.proofs.Walking.{not-known, rest-asks}
 use Rattle.placement.proofs.Before.{Places, is-tier, can-place}
 use Rattle.joining.specs.Joining.{join}
 use Rattle.joining.proofs.Ends.{new-tier, used-small}
-use Rattle.edit.specs.Edits.{find, without, left, runOf, noRoom, placeIn, tierOf, storeImage}
-use Rattle.edit.specs.Replaced.{oldOf, withoutOld, replacedOld, extendedOld, Stores, Storable, Replaces, Extends}
+use Rattle.edit.specs.declared.Policy.the-variants.{Tight}
+use Rattle.edit.specs.Edits.{find, without, left, runOf, noRoom, placeIn, tierOf, onTheSpot, entryIn, storedEntry, storeImage}
+use Rattle.edit.specs.Replaced.{oldOf, withoutOld, replacedOld, extendedOld, Stores, Storable, Walks, Replaces, Extends}
 use Rattle.edit.proofs.Without.{without-sound, without-room, without-head}
 use Rattle.edit.proofs.Replacing.{sound-framed, sound-tiers, sound-lows, found-old, old-fits, withoutOld-is, old-tier}
 use Rattle.edit.proofs.Scanning.{scan-is}
@@ -54,12 +56,16 @@ walk-asks {z} {img} {key} {value} w e =
       oldEnds = old-fits z img (w .sound) key _ (found-old z img (w .sound) key) .rangeEnds;
     }
 
+-- what the scan of the tiers that are left asks for, after the walk
+pub rest-scans : {z : Shape} {img key value : List ℕ} {w : Walk} {n : ℕ} → Walks z img key value w n → CanScanRest z img (w .old) (w .passed) n
+rest-scans {z} {img} {key} {value} {n = n} w = rest-asks z img key n (w .walked) (walk-asks (w .storable) (w .chunksIs))
+
 -- a sound image with a free tier uses fewer than the most
 used-few : {C : Type 0} (z : Shape) (img : List ℕ) → SoundWith C z img → (s : ℕ) → s < z .settings .segments → freeHead z img ≢ 0
     → get z img (global usedTiers) < mostTiers
 used-few z img sound s hs ne = omega (arith, used-small z img s hs (sound .fits .chains) ne, sound .fits .frame .tierCount)
 
--- what a store knows once it has its place
+-- what the tight store knows once it has its place
 pub record Scanned (z : Shape) (img key value : List ℕ) (n : ℕ) (p : EntryPlace) : Type 0 where
   pub storable : Storable z img key value
   pub keyBytes : Bytes key
@@ -67,9 +73,10 @@ pub record Scanned (z : Shape) (img key value : List ℕ) (n : ℕ) (p : EntryPl
   pub chunksIs : n ≡ chunksFor (z .settings) (length key) (length value)
   pub placeIs : PlaceIs z img key n p
 
-pub scanned : {z : Shape} {img key value : List ℕ} {n : ℕ} {p : EntryPlace} → Storable z img key value → Bytes key → Bytes value
-    → n ≡ chunksFor (z .settings) (length key) (length value) → PlaceIs z img key n p → Scanned z img key value n p
-scanned w kb vb en ep = record { storable = w; keyBytes = kb; valueBytes = vb; chunksIs = en; placeIs = ep }
+pub scanned : {z : Shape} {img key value : List ℕ} {w : Walk} {n : ℕ} {p : EntryPlace} → Walks z img key value w n → Bytes key → Bytes value
+    → PlaceAfter z img n w p → Scanned z img key value n p
+scanned {key = key} w kb vb after =
+    record { storable = w .storable; keyBytes = kb; valueBytes = vb; chunksIs = w .chunksIs; placeIs = after key (w .walked) }
 
 module _ {z : Shape} {img key value : List ℕ} {n : ℕ} {p : EntryPlace} (w : Scanned z img key value n p) where
   open Shape z using (settings)
@@ -102,7 +109,7 @@ module _ {z : Shape} {img key value : List ℕ} {n : ℕ} {p : EntryPlace} (w : 
 
   -- ---- no tier takes it, and none is free
 
-  pub no-room : (head : ℕ) → p .run ≡ Nowhere → head ≡ freeHead z img → head ≡ 0 → Stores z img key value false img
+  pub no-room : (head : ℕ) → p .run ≡ Nowhere → head ≡ freeHead z img → head ≡ 0 → Stores Tight z img key value false img
   unfolding noRoom
   no-room head f eh e0 = (rw (← run-is, f) (eq-eqb (freeHead z img₁) 0 (without-head z img sound key ∙ sym eh ∙ e0)), refl)
 
@@ -126,8 +133,8 @@ module _ {z : Shape} {img key value : List ℕ} {n : ℕ} {p : EntryPlace} (w : 
           places = rw old-is (can-place fits slot-known);
         }
 
-    pub run-stored : {y : List ℕ} → y ≡ replacedOld z img old t c key value → Stores z img key value true y
-    unfolding noRoom storeImage placeIn replacedOld
+    pub run-stored : {y : List ℕ} → y ≡ replacedOld z img old t c key value → Stores Tight z img key value true y
+    unfolding noRoom storeImage storedEntry entryIn onTheSpot placeIn replacedOld
     run-stored ey = (
       rw (← run-is, f),
       ey
@@ -166,8 +173,8 @@ module _ {z : Shape} {img key value : List ℕ} {n : ℕ} {p : EntryPlace} (w : 
           });
         }
 
-    pub free-stored : {y : List ℕ} → y ≡ extendedOld z img old s head key value → Stores z img key value true y
-    unfolding noRoom storeImage placeIn extendedOld
+    pub free-stored : {y : List ℕ} → y ≡ extendedOld z img old s head key value → Stores Tight z img key value true y
+    unfolding noRoom storeImage storedEntry entryIn onTheSpot placeIn extendedOld
     free-stored ey = (
       rw (← run-is, f) (ne-eqb (freeHead z img₁) 0 some-free),
       ey

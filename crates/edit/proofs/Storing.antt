@@ -1,4 +1,4 @@
--- A store for which the row of 10 does not hold: the image is sound, and has the new key and record beside all other keys.
+-- A store that does not stay on the spot, and for which the row of 10 does not hold: the image is sound, and has the new key and record beside all other keys.
 use Prim.Native.Nat.{ℕ, _+_, _≤_, _<_}
 use mathlib.Core.List.{List, _∷_, List·Memᴰ, List·Memᴰ·head, List·Memᴰ·tail, List·Memᴰ·cases-cons, List·Memᴰ·eq-of-singleton}
 use mathlib.Core.Path.{_≡_, refl, ap, sym, _∙_, subst}
@@ -39,7 +39,7 @@ use Rattle.placement.proofs.Running.{run-found}
 use Rattle.placement.proofs.Placing.{Places, place-only, place-sound, place-chain, place-pairs}
 use Rattle.joining.specs.Joining.{join}
 use Rattle.joining.proofs.Joined.{join-sound, join-tiers, join-stays, join-in, join-pairs, join-empty, join-clear, join-absent}
-use Rattle.edit.specs.Edits.{find, without, runOf, nowhereToGo, noRoom, left, placeIn, tierFor, tierOf, storeTiers, storeImage}
+use Rattle.edit.specs.Edits.{find, without, runOf, nowhereToGo, noRoom, left, placeIn, tierFor, tierOf, tiersBy, entryIn, storedEntry}
 use Rattle.edit.specs.Replaced.{Storable}
 use Rattle.edit.proofs.Without.{without-sound, without-left, without-lows, without-pairs, without-absent}
 use Rattle.edit.proofs.Replacing.{found-tier}
@@ -200,21 +200,21 @@ module _ (z : Shape) (img : List ℕ) (key value : List ℕ) (w : Storable z img
     in-chains : Every (touched (tierFor z img₁ r) (tierOf (find z img key))) (IsChained z (placeIn z img₁ key value r))
     in-chains u m = done .chained u (touched-in (tierFor z img₁ r) (find z img key) u m)
 
-    pub store-sound : SoundImage z (storeImage z img key value)
-    unfolding storeImage
-    store-sound = settle-sound z _ (placeIn z img₁ key value r) changed in-chains
+    pub placed-sound : SoundImage z (storedEntry z img key value none)
+    unfolding storedEntry entryIn
+    placed-sound = settle-sound z _ (placeIn z img₁ key value r) changed in-chains
 
-    pub store-lows : LowMarks z img (storeImage z img key value) (storeTiers z img key value)
-    unfolding storeImage
-    store-lows =
+    pub placed-lows : LowMarks z img (storedEntry z img key value none) (tiersBy z img key value none)
+    unfolding storedEntry entryIn
+    placed-lows =
         settle-lows z _ (placeIn z img₁ key value r) changed in-chains
         (λ u is out.
         done .lows u is (λ k. out (touched-more (tierFor z img₁ r) (find z img key) (λ e f. found-tier z img sound key e f) u k)))
 
-    pub store-pairs : (F : Pair → ℕ) → total (pairsOf z (storeImage z img key value)) F
+    pub placed-pairs : (F : Pair → ℕ) → total (pairsOf z (storedEntry z img key value none)) F
         ≡ F (record { key = key; value = value }) + total (those (pairsOf z img) (λ p. not (same (p .key) key))) F
-    unfolding storeImage
-    store-pairs F =
+    unfolding storedEntry entryIn
+    placed-pairs F =
         omega (
           arith,
           settle-pairs z _ (placeIn z img₁ key value r) changed in-chains F,

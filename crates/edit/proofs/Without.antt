@@ -37,11 +37,11 @@ use Rattle.edit.proofs.Finding.{find-live, find-none}
 
 -- ---- a key's weight
 
-with-own : (key : List ℕ) (p : Pair) → p .key ≡ key → withKey key p ≡ 1
+pub with-own : (key : List ℕ) (p : Pair) → p .key ≡ key → withKey key p ≡ 1
 unfolding withKey
 with-own key p e = rw (same-eq (p .key) key e, withKey)
 
-with-other : (key : List ℕ) (p : Pair) → p .key ≢ key → withKey key p ≡ 0
+pub with-other : (key : List ℕ) (p : Pair) → p .key ≢ key → withKey key p ≡ 0
 unfolding withKey
 with-other key p n = rw (same-false (p .key) key n, withKey)
 
@@ -110,6 +110,10 @@ module _ (z : Shape) (img : List ℕ) (sound : SoundImage z img) (key : List ℕ
   entry-head (some e) f = removal-head z img every e (find-live z img key e f .0)
 
   -- ---- the whole
+
+  pub without-found : (e : Live) → find z img key ≡ some e → without z img key ≡ removeEntry z img e
+  unfolding without withoutEntry
+  without-found e f = rw f
 
   pub without-sound : SoundBut z (without z img key) (left (find z img key))
   unfolding without

@@ -1,7 +1,7 @@
 -- What an edit does to an accepted image: removal and store of a key; and the row of 10.
 use Prim.Native.Nat.{ℕ}
 use mathlib.Core.List.{List, [], _∷_}
-use mathlib.Core.Bool.{Bool, false}
+use mathlib.Core.Bool.{Bool, true, false}
 use mathlib.Core.Option.{Option, none, some}
 use lib.Dec.{eqb}
 use lib.ListN.{length}
@@ -18,8 +18,10 @@ use Rattle.removal.specs.Removal.{removeEntry}
 use Rattle.placement.specs.declared.Run.{Run}
 use Rattle.placement.specs.declared.Run.the-variants.{At, Nowhere}
 use Rattle.placement.specs.Runs.{runFor}
-use Rattle.placement.specs.Placement.{placeAt}
+use Rattle.placement.specs.Placement.{writeEntry, placeAt}
 use Rattle.joining.specs.Joining.{join}
+use Rattle.edit.specs.declared.Policy.{Policy}
+use Rattle.edit.specs.declared.Policy.the-variants.{OnTheSpot, Tight}
 
 -- the live entry with this whole key
 unfoldable pub find : Shape → List ℕ → List ℕ → Option Live
@@ -79,11 +81,31 @@ abbrev pub tierOf : Option Live → ℕ
 tierOf none = 0
 tierOf (some e) = e .tier
 
--- the tiers in which a store takes or frees chunks
-abbrev pub storeTiers : Shape → List ℕ → List ℕ → List ℕ → List ℕ
-storeTiers z img key value = touched (tierFor z (without z img key) (runOf z (without z img key) key value)) (tierOf (find z img key))
+-- the old entry, where the new one, of n chunks, takes its place: the policy allows it, and it has as many chunks
+unfoldable pub onTheSpot : Policy → ℕ → Option Live → Option Live
+onTheSpot Tight n o = none
+onTheSpot OnTheSpot n none = none
+onTheSpot OnTheSpot n (some e) = elim (eqb (e .chunks) n) [ true ↦ some e | false ↦ none ]
 
--- the old entry is removed first, in effect; the counters of those tiers follow
-unfoldable pub storeImage : Shape → List ℕ → List ℕ → List ℕ → List ℕ
-storeImage z img key value =
-    settle z (placeIn z (without z img key) key value (runOf z (without z img key) key value)) (storeTiers z img key value)
+abbrev pub spotOf : Policy → Shape → List ℕ → List ℕ → List ℕ → Option Live
+spotOf policy z img key value = onTheSpot policy (chunksFor (z .settings) (length key) (length value)) (find z img key)
+
+-- the tiers in which a store takes or frees chunks: none on the spot
+abbrev pub tiersBy : Shape → List ℕ → List ℕ → List ℕ → Option Live → List ℕ
+tiersBy z img key value (some e) = []
+tiersBy z img key value none = touched (tierFor z (without z img key) (runOf z (without z img key) key value)) (tierOf (find z img key))
+
+abbrev pub storeTiers : Policy → Shape → List ℕ → List ℕ → List ℕ → List ℕ
+storeTiers policy z img key value = tiersBy z img key value (spotOf policy z img key value)
+
+-- on the spot the entry's own bytes are written and nothing else; else the old entry is removed first, in effect
+unfoldable pub entryIn : Shape → List ℕ → List ℕ → List ℕ → Option Live → List ℕ
+entryIn z img key value (some e) = writeEntry z img (e .tier) (e .chunk) key value
+entryIn z img key value none = placeIn z (without z img key) key value (runOf z (without z img key) key value)
+
+-- the image after a store: the counters of those tiers follow
+unfoldable pub storedEntry : Shape → List ℕ → List ℕ → List ℕ → Option Live → List ℕ
+storedEntry z img key value o = settle z (entryIn z img key value o) (tiersBy z img key value o)
+
+unfoldable pub storeImage : Policy → Shape → List ℕ → List ℕ → List ℕ → List ℕ
+storeImage policy z img key value = storedEntry z img key value (spotOf policy z img key value)

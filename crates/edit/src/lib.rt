@@ -3,13 +3,21 @@ use layout::Shape;
 use placement::NewSlot;
 use placement::Old;
 use placement::Run;
+use placement::walk::Walk;
 use search::Found;
 ghost use mathlib.Core.Path.{_≡_};
 ghost use lib.ListN.{length};
 ghost use Rattle.layout.specs.Frame.{Framed};
 ghost use Rattle.sound.specs.Sound.{SoundImage};
+ghost use Rattle.edit.specs.declared.Policy.the-variants.{Tight};
 ghost use Rattle.edit.specs.Edits.{find, removeImage};
-ghost use Rattle.edit.specs.Replaced.{oldOf, withoutOld, replacedOld, extendedOld, OldFits, isThere, Stores, Storable, Replaces, Extends};
+ghost use Rattle.edit.specs.Replaced.{oldOf, withoutOld, replacedOld, extendedOld, oldOnTheSpot, OldFits, isThere, Stores, Storable, Walks, Replaces, Extends};
+
+// How a store replaces an entry: where it stands, if the new one takes as many chunks; or always as if it were removed first.
+pub enum Policy {
+    OnTheSpot,
+    Tight,
+}
 
 // The entry with the whole key, if there is one.
 fn old_entry(z: Shape, img: &[u8], key: &[u8]) -> Old
@@ -78,13 +86,22 @@ fn extend(z: Shape, img: &mut [u8], old: Old, s: usize, t: usize, key: &[u8], va
     counters::settle(z, img, t, old.tier);
 }
 
-// Stores a record under a key; whether it found room. Nothing is written before that is known.
-pub fn store(z: Shape, img: &mut [u8], key: &[u8], value: &[u8]) -> bool
-    requires { ⌜ Storable z (now img) (now key) (now value) ⌝ }
-    ensures { λ r. ⌜ Stores z (now (img .entry)) (now (key .entry)) (now (value .entry)) r (now (img .exit)) ⌝ }
+// Whether an entry of n chunks takes the place of the old one. Where there is none it has 0 chunks, and a new entry takes some.
+fn on_the_spot(policy: Policy, old: Old, n: usize) -> bool
+    ensures { λ r. ⌜ r ≡ oldOnTheSpot policy old n ⌝ }
 {
-    let n = entries::chunks_for(z.settings, key.len(), value.len());
-    let place = placement::walk::place_for(z, img, key, n);
+    match policy {
+        Policy::Tight => false,
+        Policy::OnTheSpot => old.chunks == n,
+    }
+}
+
+// The tight store, after the walk: whether it found room. Nothing is written before that is known.
+fn store_tight(z: Shape, img: &mut [u8], w: Walk, n: usize, key: &[u8], value: &[u8]) -> bool
+    requires { ⌜ Walks z (now img) (now key) (now value) w n ⌝ }
+    ensures { λ r. ⌜ Stores Tight z (now (img .entry)) (now (key .entry)) (now (value .entry)) r (now (img .exit)) ⌝ }
+{
+    let place = placement::walk::place_for(z, img, w, n);
     let old = place.old;
     let scan = place.run;
     let slot = place.slot;
@@ -98,5 +115,20 @@ pub fn store(z: Shape, img: &mut [u8], key: &[u8], value: &[u8]) -> bool
         return true;
     };
     replace(z, img, old, t, c, slot, key, value);
+    true
+}
+
+// Stores a record under a key; whether there was room.
+pub fn store(z: Shape, img: &mut [u8], key: &[u8], value: &[u8], policy: Policy) -> bool
+    requires { ⌜ Storable z (now img) (now key) (now value) ⌝ }
+    ensures { λ r. ⌜ Stores policy z (now (img .entry)) (now (key .entry)) (now (value .entry)) r (now (img .exit)) ⌝ }
+{
+    let n = entries::chunks_for(z.settings, key.len(), value.len());
+    let w = placement::walk::walk_chain(z, img, key, n);
+    let old = w.old;
+    if !on_the_spot(policy, old, n) {
+        return store_tight(z, img, w, n, key, value);
+    }
+    placement::place::write_from(z, img, old.tier, old.chunk, key, value);
     true
 }

@@ -59,7 +59,8 @@ module _ (z : Shape) (img : List ℕ) (s : ℕ) (hs : s < z .settings .segments)
     counters-again q hq u m out =
         ⊎-elim
         (λ k.
-        same-counters z img img′ u (old-tier z img s hs sound ne img′ j q hq u k)
+        let same : SameTier z img img′ u = old-tier z img s hs sound ne img′ j q hq u k in
+        same-counters z img img′ u (same .slots) (same .marks)
         (j .counts u (chain-tiers z img (sound .fits .chains) q hq u k))
         (sound .fits .chunks .counters q hq u k (λ w. out (List·Memᴰ·tail w))))
         (λ e. absurd (out (List·Memᴰ·head e)))
@@ -70,7 +71,8 @@ module _ (z : Shape) (img : List ℕ) (s : ℕ) (hs : s < z .settings .segments)
         rw (shorter-free z img s hs (sound .fits .chains) ne img′ j)
         (λ u m.
         let f : IsExtra z u = sound .fits .chains .freeFits .extras u (others-free z img s hs (sound .fits .chains) ne u m) in
-        same-free z img img′ u (j .sameTiers u (omega arith)) (sound .fits .chunks .free u (others-free z img s hs (sound .fits .chains) ne u m)))
+        let same : SameTier z img img′ u = j .sameTiers u (omega arith) in
+        same-free z img img′ u (same .slots) (same .marks) (sound .fits .chunks .free u (others-free z img s hs (sound .fits .chains) ne u m)))
 
     sound-again : SoundBut z img′ (freeHead z img ∷ but)
     sound-again =

@@ -1,5 +1,5 @@
 -- What the seven writes that let tier t join after tier l leave as it was.
-use Prim.Native.Nat.{ℕ, _-_, _/_, _<_}
+use Prim.Native.Nat.{ℕ, _<_}
 use mathlib.Core.List.{List, [], _∷_}
 use mathlib.Core.Path.{_≡_, sym}
 use mathlib.Core.Logic.{⊎-elim, _≢_}
@@ -11,9 +11,8 @@ use Rattle.layout.specs.Places.{Header, Counter, nextTier, next, previous, segm
 use Rattle.layout.specs.Places.{globalNo, headerNo, counterNo, Place, global, tier, slot, counter, free, byte, In, get, sharedPlace, nextPlace, Write, _≔_, puts}
 use Rattle.layout.specs.Frame.{Image}
 use Rattle.layout.proofs.Places.{global-lt, get-puts-other, length-puts, kind, by-kind, shared-in, shared-kind, shared-never, shared-tiers}
-use Rattle.layout.proofs.Marks.{mark-get}
-use Rattle.layout.proofs.Chunks.{cut-chunks}
 use Rattle.sound.proofs.AgreeTier.{SameTier}
+use Rattle.sound.proofs.Elsewhere.{tier-by-places}
 
 -- tier t joins after tier l, as the tier at place n of segment s's chain; a becomes the first free tier, and b tiers are used
 abbrev pub joinWrites : Shape → (s t l a b n : ℕ) → List Write
@@ -103,16 +102,10 @@ module _ {z : Shape} {img : List ℕ} (im : Image z img) (s t l a b n : ℕ) (it
 
   pub same-tiers : (u : ℕ) → IsTier z u → SameTier z img after u
   same-tiers u iu =
-      record {
-        slots = λ j h. kept (tier u (slot j)) (iu, h) (by-kinds (tier u (slot j)) (omega arith));
-        marks = λ i h.
-            rw (mark-get z after u i, mark-get z img u i, kept (tier u (free (i / 8))) (iu, omega arith) (by-kinds (tier u (free (i / 8))) (omega arith)));
-        bytes =
-            let whole : z .settings .chunks - 0 ≡ z .settings .chunks = omega arith in
-            rw whole at
-            (cut-chunks z u after img 0 (length-puts z img (joinWrites z s t l a b n))
-            (λ i h. kept (tier u (byte i)) (iu, h) (by-kinds (tier u (byte i)) (omega arith))) (omega arith));
-      }
+      tier-by-places z img after u (length-puts z img (joinWrites z s t l a b n))
+      (λ j h. kept (tier u (slot j)) (iu, h) (by-kinds (tier u (slot j)) (omega arith)))
+      (λ b h. kept (tier u (free b)) (iu, h) (by-kinds (tier u (free b)) (omega arith)))
+      (λ i h. kept (tier u (byte i)) (iu, h) (by-kinds (tier u (byte i)) (omega arith)))
 
   pub global-kept : (f : Global) → globalNo f ≢ 1 → globalNo f ≢ 2 → get z after (global f) ≡ get z img (global f)
   global-kept f k1 k2 = kept (global f) tt (by-kinds (global f) (omega (arith, global-lt f)))

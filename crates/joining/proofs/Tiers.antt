@@ -24,7 +24,8 @@ use Rattle.lists.proofs.Totals.{total-same}
 use Rattle.sound.proofs.Sums.{full-total, pairs-total}
 use Rattle.chains.proofs.Chained.{chained-in}
 use Rattle.chains.proofs.Tiers.{chain-tiers}
-use Rattle.sound.proofs.AgreeTier.{SameTier, Moved, entry-moves, same-weigh}
+use Rattle.sound.proofs.AgreeEntry.{Moved, entry-moves}
+use Rattle.sound.proofs.AgreeTier.{SameTier, same-weigh}
 use Rattle.joining.proofs.Ends.{new-in, new-tier}
 use Rattle.joining.proofs.Chains.{other-chain, longer-chain}
 use Rattle.joining.proofs.Fitting.{chained-longer}

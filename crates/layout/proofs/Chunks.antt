@@ -39,8 +39,11 @@ module _ (z : Shape) (t : ℕ) where
   unfolding chunkAt at partAt
   chunk-at c = omega (arith, zero-mul chunkSize)
 
+  pub chunk-mono : (a b : ℕ) → a ≤ b → chunkAt z t a ≤ chunkAt z t b
+  chunk-mono a b h = omega (arith, chunk-at a, chunk-at b, mul-le-mul-right chunkSize h)
+
   pub chunk-inside : (c : ℕ) → c ≤ chunks → chunkAt z t c ≤ chunkAt z t chunks
-  chunk-inside c h = omega (arith, chunk-at c, chunk-at chunks, mul-le-mul-right chunkSize h)
+  chunk-inside c h = chunk-mono c chunks h
 
   -- from chunk c to the chunks' end
   pub chunk-rest : (c : ℕ) → c ≤ chunks → chunkAt z t c + (chunks - c) * chunkSize ≡ chunkAt z t chunks
@@ -134,10 +137,3 @@ module _ {z : Shape} {len : ℕ} (fr : Framed z len) (img : List ℕ) (t c : ℕ
         mark-get z img u i,
         get-sets-other (tier u (free (i / 8))) it k fits (iu, omega arith) (λ d. by-kind (omega arith)),
       )
-
-  -- another tier's chunks
-  pub cut-sets-chunks : (u d : ℕ) → IsTier z t → c ≤ chunks → length bs ≤ (chunks - c) * chunkSize → IsTier z u → u ≢ t → d ≤ chunks
-      → cut (sets img (chunkAt z t c) bs) (chunkAt z u d) ((chunks - d) * chunkSize) ≡ cut img (chunkAt z u d) ((chunks - d) * chunkSize)
-  cut-sets-chunks u d it k fits iu ne l =
-      cut-chunks z u (sets img (chunkAt z t c) bs) img d (length-sets img (chunkAt z t c) bs)
-      (λ i b. get-sets-other (tier u (byte i)) it k fits (iu, b) (λ j e. let same : u ≡ t = cc in ne same)) l

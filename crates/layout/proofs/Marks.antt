@@ -83,16 +83,6 @@ module _ {z : Shape} {len : ℕ} (fr : Framed z len) (img : List ℕ) where
   get-putMarks-other t c n b p it fits h ne =
       le-ext _ _ (at z p) (wide z p) (λ j lo hi. getD-putBits-out img (freeListAt z t) c n b j (no-mark t c n p j it fits h ne lo hi))
 
-  -- another tier's marks
-  pub mark-putMarks-tier : (t c n b u i : ℕ) → IsTier z t → IsTier z u → u ≢ t → c + n ≤ chunks → i < chunks
-      → mark z (putMarks z img t c n b) u i ≡ mark z img u i
-  mark-putMarks-tier t c n b u i it iu ne fits k =
-      rw (
-        mark-get z (putMarks z img t c n b) u i,
-        mark-get z img u i,
-        get-putMarks-other t c n b (tier u (free (i / 8))) it fits (iu, omega arith) (λ d e. let same : u ≡ t = cc in ne same),
-      )
-
 -- ---- the marks of the tier itself
 
 pub mark-putMarks-out : (z : Shape) (img : List ℕ) (t c n b i : ℕ) → b < 2 → (i < c) ⊎ (c + n ≤ i)

@@ -22,6 +22,7 @@ use Rattle.chronicle_map.specs.declared.RecordPlace.{RecordPlace}
 use Rattle.chronicle_map.specs.declared.SearchEnd.{SearchEnd}
 use Rattle.chronicle_map.specs.declared.Located.the-variants as looked
 use Rattle.chronicle_map.specs.declared.Answer.{Answer}
+use Rattle.edit.specs.declared.Policy.the-variants.{OnTheSpot}
 use Rattle.chronicle_map.specs.Calls.{lookup, recordAt, recordLength, recordBytes, Edited, store}
 use Rattle.chronicle_map.proofs.Laws.{check-lookup, check-store}
 use Rattle.pairs.specs.declared.Asked.{Asked}
@@ -142,12 +143,12 @@ module _ (block img : List ℕ) (a b : ℕ) (d : ℤ) where
           → fromStore block img (pairKey a b) (delayRecord (inOrder a b d)) ≡ setChecked block img a b d o
       by-outcome (outcome.Refused s) e =
           ap (λ (x : Edited). record { answer = set.Stored (x .answer); image = x .image })
-          (check-store block img s (λ i. record { outcome = e i }) (pairKey a b) (delayRecord (inOrder a b d)))
+          (check-store block img s (λ i. record { outcome = e i }) OnTheSpot (pairKey a b) (delayRecord (inOrder a b d)))
       by-outcome (outcome.Accepted c) e = sym (choose-yes (channelsFit? a b) _ _ f ∙ choose-no (ℤ-discrete d mostNegative) _ _ n)
 
   pub set-stored : ChannelsFit a b → d ≢ mostNegative → {key : List ℕ} → key ≡ pairKey a b → {bytes : List ℕ}
       → bytes ≡ delayRecord (inOrder a b d)
-      → {r : Answer} {img′ : List ℕ} → record { answer = r; image = img′ } ≡ store block img key bytes
+      → {r : Answer} {img′ : List ℕ} → record { answer = r; image = img′ } ≡ store OnTheSpot block img key bytes
       → record { answer = set.Stored r; image = img′ } ≡ setDelay block img a b d
   set-stored f n ek eb e =
       ap (λ (x : Edited). record { answer = set.Stored (x .answer); image = x .image }) e ∙ (λ i. fromStore block img (ek i) (eb i)) ∙ set-fits f n

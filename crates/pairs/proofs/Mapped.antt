@@ -11,6 +11,7 @@ use Rattle.words.specs.Bytes.{Bytes}
 use Rattle.entries.specs.Pairs.{Pair}
 use Rattle.image.specs.declared.Verdict.{Verdict}
 use Rattle.image.specs.Check.{check}
+use Rattle.edit.specs.declared.Policy.the-variants.{OnTheSpot}
 use Rattle.chronicle_map.specs.Calls.{lookup, store, answerNumber}
 use Rattle.chronicle_map.specs.History.{mapOf, mapGet}
 use Rattle.chronicle_map.specs.Demands.{Accepted, Alters}
@@ -71,24 +72,24 @@ module _ (block img : List ℕ) (bytes : Bytes img) (accepted : Accepted block i
     value = delayRecord (inOrder a b d)
 
     abbrev after : Setting
-    after = record { answer = set.Stored (store block img (pairKey a b) value .answer); image = store block img (pairKey a b) value .image }
+    after = record { answer = set.Stored (store OnTheSpot block img (pairKey a b) value .answer); image = store OnTheSpot block img (pairKey a b) value .image }
 
-    stored : answerNumber (store block img (pairKey a b) value .answer) ≡ 0 → AfterSet block img a b d after
+    stored : answerNumber (store OnTheSpot block img (pairKey a b) value .answer) ≡ 0 → AfterSet block img a b d after
     stored e =
-        let r : Alters block img (store block img (pairKey a b) value .image) (pairKey a b) (some (record { key = pairKey a b; value = value })) =
-        demand2 block img bytes accepted .stored (pairKey a b) value (key-bytes a b fit) (record-bytes (inOrder a b d)) e in
+        let r : Alters block img (store OnTheSpot block img (pairKey a b) value .image) (pairKey a b) (some (record { key = pairKey a b; value = value })) =
+        demand2 block img bytes accepted .stored OnTheSpot (pairKey a b) value (key-bytes a b fit) (record-bytes (inOrder a b d)) e in
         record {
-          bytes = store-bytes block img bytes accepted (pairKey a b) value (key-bytes a b fit) (record-bytes (inOrder a b d));
+          bytes = store-bytes block img bytes accepted OnTheSpot (pairKey a b) value (key-bytes a b fit) (record-bytes (inOrder a b d));
           accepted = r .accepted;
           others = r .others;
           fits = λ _. (fit, n);
           own = λ _. r .altered;
         }
 
-    not-stored : answerNumber (store block img (pairKey a b) value .answer) ≢ 0 → AfterSet block img a b d after
+    not-stored : answerNumber (store OnTheSpot block img (pairKey a b) value .answer) ≢ 0 → AfterSet block img a b d after
     not-stored m =
-        let e : store block img (pairKey a b) value .image ≡ img = demand1 block img .storeRefused (pairKey a b) value m in
-        let answer : SetAnswer = set.Stored (store block img (pairKey a b) value .answer) in
+        let e : store OnTheSpot block img (pairKey a b) value .image ≡ img = demand1 block img .storeRefused OnTheSpot (pairKey a b) value m in
+        let answer : SetAnswer = set.Stored (store OnTheSpot block img (pairKey a b) value .answer) in
         subst (AfterSet block img a b d) (λ i. record { answer = answer; image = sym e i }) (unchanged answer m)
 
   pub after-set : AfterSet block img a b d (setDelay block img a b d)
@@ -100,7 +101,7 @@ module _ (block img : List ℕ) (bytes : Bytes img) (accepted : Accepted block i
       by-number : ChannelsFit a b → Dec (d ≡ mostNegative) → AfterSet block img a b d (setDelay block img a b d)
       by-number f (yes e) = subst (AfterSet block img a b d) (set-most block img a b d f e first) (unchanged set.BadDelay (λ (q : 12 ≡ 0). omega arith))
       by-number f (no n) =
-          let number : ℕ = answerNumber (store block img (pairKey a b) (delayRecord (inOrder a b d)) .answer) in
+          let number : ℕ = answerNumber (store OnTheSpot block img (pairKey a b) (delayRecord (inOrder a b d)) .answer) in
           subst (AfterSet block img a b d) (set-fits block img a b d f n) (⊎-elim (stored f n) (not-stored f n) (same-or number 0))
 
       by-pair : Dec (ChannelsFit a b) → AfterSet block img a b d (setDelay block img a b d)

@@ -15,6 +15,7 @@ use Rattle.lists.proofs.Members.{in-those}
 use Rattle.image.specs.declared.Outcome.{Outcome}
 use Rattle.image.specs.declared.Outcome.the-variants as outcome
 use Rattle.image.specs.Check.{stageNumber, check, outcomeNumbers}
+use Rattle.edit.specs.declared.Policy.the-variants.{OnTheSpot}
 use Rattle.chronicle_map.specs.declared.Located.{Located}
 use Rattle.chronicle_map.specs.declared.Located.the-variants as looked
 use Rattle.chronicle_map.specs.Calls.{numberOf, lookup, lookupNumbers, recordBytes}
@@ -100,8 +101,8 @@ module _ (block img : List ℕ) where
       unfolding choose setRecord span
       record-set (yes _) = set-pair 12 (List·Memᴰ·tail (List·Memᴰ·head refl)) (omega arith)
       record-set (no _) =
-          set-store _ (demand1 block img .storeAnswers (pairKey a b) (delayRecord (inOrder a b d)) .allowed)
-          (store-not-8 block img (pairKey a b) (key-fits a b) (delayRecord (inOrder a b d)))
+          set-store _ (demand1 block img .storeAnswers OnTheSpot (pairKey a b) (delayRecord (inOrder a b d)) .allowed)
+          (store-not-8 block img (pairKey a b) (key-fits a b) OnTheSpot (delayRecord (inOrder a b d)))
 
       pair-set : (f : Dec (ChannelsFit a b)) → IsSetNumber (setNumber (setPair block img a b d f .answer))
       unfolding choose setPair
@@ -129,7 +130,7 @@ module _ (block img : List ℕ) (a b : ℕ) (d : ℤ) where
   record-refused : (m : Dec (d ≡ mostNegative)) → setNumber (setRecord block img a b d m .answer) ≢ 0 → setRecord block img a b d m .image ≡ img
   unfolding choose setRecord
   record-refused (yes _) ne = refl
-  record-refused (no _) ne = demand1 block img .storeRefused (pairKey a b) (delayRecord (inOrder a b d)) ne
+  record-refused (no _) ne = demand1 block img .storeRefused OnTheSpot (pairKey a b) (delayRecord (inOrder a b d)) ne
 
   pair-refused : (f : Dec (ChannelsFit a b)) → setNumber (setPair block img a b d f .answer) ≢ 0 → setPair block img a b d f .image ≡ img
   unfolding choose setPair

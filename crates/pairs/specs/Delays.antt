@@ -11,6 +11,7 @@ use Rattle.image.specs.Check.{stageNumber, check}
 use Rattle.chronicle_map.specs.declared.Located.{Located}
 use Rattle.chronicle_map.specs.declared.Located.the-variants as looked
 use Rattle.chronicle_map.specs.declared.Answer.the-variants as answer
+use Rattle.edit.specs.declared.Policy.the-variants.{OnTheSpot}
 use Rattle.chronicle_map.specs.Calls.{lookup, recordBytes, store, answerNumber}
 use Rattle.pairs.specs.declared.Asked.{Asked}
 use Rattle.pairs.specs.declared.Asked.the-variants as asked
@@ -62,7 +63,7 @@ pub record Setting : Type 0 where
 
 -- what the store of a record answers and leaves; a refusal leaves the image
 abbrev pub fromStore : List ℕ → List ℕ → List ℕ → List ℕ → Setting
-fromStore block img key bytes = record { answer = set.Stored (store block img key bytes .answer); image = store block img key bytes .image }
+fromStore block img key bytes = record { answer = set.Stored (store OnTheSpot block img key bytes .answer); image = store OnTheSpot block img key bytes .image }
 
 abbrev pub refusing : List ℕ → SetAnswer → Setting
 refusing img x = record { answer = x; image = img }

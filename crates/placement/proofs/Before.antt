@@ -1,40 +1,30 @@
--- What is known before an entry is placed, and what that says of its bytes and of its slot's number.
-use Prim.Native.Nat.{ℕ, zero, suc, _+_, _-_, _*_, _^_, _≤_, _<_}
-use mathlib.Core.List.{List, [], _∷_, _++_, List·Memᴰ}
+-- What is known before an entry is placed, and what that says of its slot's number.
+use Prim.Native.Nat.{ℕ, _+_, _^_, _≤_, _<_}
+use mathlib.Core.List.{List, List·Memᴰ}
 use mathlib.Core.Path.{_≡_}
 use mathlib.Core.Logic.{_≢_}
 use native.Mathlib.Omega.{arith}
 use lib.ListN.{length}
 use Rattle.words.specs.Bytes.{Bytes}
-use Rattle.leb128.specs.Leb128.{encode}
-use Rattle.leb128.proofs.Encode.{bytes-encode}
 use Rattle.settings.specs.declared.Settings.{Settings}
 use Rattle.layout.specs.declared.Shape.{Shape}
 use Rattle.layout.specs.Tiers.{IsTier}
-use Rattle.layout.specs.Places.{mark, chunkAt}
+use Rattle.layout.specs.Places.{mark}
 use Rattle.layout.specs.Frame.{Image}
-use Rattle.layout.proofs.Chunks.{chunk-add, chunk-inside}
 use Rattle.chains.specs.Chains.{chain}
 use Rattle.entries.specs.Keys.{KeyFits, segmentOf, lookupKey, slotKey, slotChunk, slotRest, slotWith}
-use Rattle.entries.specs.Stored.{entryBytes, chunksFor, ValueFits}
+use Rattle.entries.specs.Stored.{chunksFor, ValueFits}
 use Rattle.entries.specs.Live.{fullSlots}
 use Rattle.entries.proofs.Hashes.{lookup-lt, lookup-full}
 use Rattle.sound.specs.Sound.{SoundBut}
 use Rattle.placement.specs.declared.NewSlot.{NewSlot}
 use Rattle.placement.specs.Asking.{CanWrite, KnownFor, CanPlace}
-use Rattle.placement.proofs.Written.{some-chunks as Written·some-chunks, chunk-lt, entry-fits, entry-room as Written·entry-room}
+use Rattle.placement.proofs.Written.{chunk-lt}
 use Rattle.chains.proofs.Tiers.{chain-tiers}
 use Rattle.sound.proofs.Sound.{sound-image}
 use Rattle.entries.proofs.Slots.{slotKey-with, slotWith-fits, slotWith-full, slotChunk-with, slotRest-with}
 use Rattle.lists.specs.Quantify.{Every}
 use Rattle.search.specs.Asking.{Lacks}
-
--- ---- two lists of bytes, one after the other
-
-pub bytes-append : (xs ys : List ℕ) → Bytes xs → Bytes ys → Bytes (xs ++ ys)
-bytes-append [] ys hx hy i = hy i
-bytes-append (x ∷ xs) ys hx hy zero = hx zero
-bytes-append (x ∷ xs) ys hx hy (suc i) = bytes-append xs ys (λ j. hx (suc j)) hy i
 
 -- the number of a slot for this key, with its entry in chunk c
 abbrev pub numberFor : Shape → List ℕ → ℕ → ℕ
@@ -57,7 +47,7 @@ pub record Places (z : Shape) (img but : List ℕ) (s t c : ℕ) (key value : Li
 
 module _ {z : Shape} {img but : List ℕ} {s t c : ℕ} {key value : List ℕ} (p : Places z img but s t c key value) where
   open Shape z using (settings)
-  open Settings settings using (chunks, chunkSize, slotSize, chunkBits, keyBits)
+  open Settings settings using (slotSize, chunkBits)
 
   pub image : Image z img
   image = sound-image z img (p .sound)
@@ -86,37 +76,10 @@ module _ {z : Shape} {img but : List ℕ} {s t c : ℕ} {key value : List ℕ} (
         slotIs = e;
       }
 
-  -- ---- its chunks and bytes
-
-  pub some-chunks : 0 < chunksFor settings (length key) (length value)
-  some-chunks = Written·some-chunks can-write
-
-  pub chunk-in : c < chunks
-  chunk-in = chunk-lt can-write
-
-  -- they end within the run, and so within the tier's chunks
-  pub entry-room : length (entryBytes settings key value) ≤ (chunks - c) * chunkSize
-  entry-room = Written·entry-room can-write
-
-  pub entry-end : chunkAt z t c + length (entryBytes settings key value) ≤ chunkAt z t (c + chunksFor settings (length key) (length value))
-  entry-end = omega (arith, entry-fits can-write, chunk-add z t c (chunksFor settings (length key) (length value)))
-
-  pub entry-in-chunks : chunkAt z t c + length (entryBytes settings key value) ≤ chunkAt z t chunks
-  entry-in-chunks = omega (arith, entry-end, chunk-inside z t (c + chunksFor settings (length key) (length value)) (p .rangeEnds))
-
-  pub entry-bytes : Bytes (entryBytes settings key value)
-  unfolding entryBytes
-  entry-bytes =
-      let k : List ℕ = encode (length key) in
-      let v : List ℕ = encode (length value) in
-      let hk : Bytes k = bytes-encode (length key) (omega (arith, p .keyFits .notLonger)) in
-      let hv : Bytes v = bytes-encode (length value) (omega (arith, p .valueFits .notLonger)) in
-      bytes-append (k ++ key ++ v) value (bytes-append (k ++ key) v (bytes-append k key hk (p .keyBytes)) hv) (p .valueBytes)
-
   -- ---- its slot's number
 
   chunk-bits : c < 2 ^ chunkBits
-  chunk-bits = omega (arith, chunk-in, p .sound .fits .valid .chunkBits .1 .1)
+  chunk-bits = omega (arith, chunk-lt can-write, p .sound .fits .valid .chunkBits .1 .1)
 
   pub number-full : numberFor z key c ≢ 0
   number-full = slotWith-full settings (lookupKey settings key) c (lookup-full (p .sound .fits .valid) key)

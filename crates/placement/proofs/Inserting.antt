@@ -29,7 +29,8 @@ use Rattle.search.proofs.Landing.{good}
 use Rattle.placement.specs.Placement.{written, slotted}
 use Rattle.sound.proofs.Values.{ifFull, full-is, empty-is}
 use Rattle.sound.proofs.Sums.{full-total, table-same}
-use Rattle.placement.proofs.Before.{numberFor, Places, image, is-tier, entry-room, entry-bytes, number-full, number-fits, number-key}
+use Rattle.placement.proofs.Written.{entry-room, entry-bytes}
+use Rattle.placement.proofs.Before.{numberFor, Places, image, is-tier, can-write, number-full, number-fits, number-key}
 use Rattle.placement.proofs.Writing.{filled, Writes}
 use Rattle.placement.proofs.Filling.{wrote-image, wrote-slot}
 
@@ -39,7 +40,7 @@ one-or-full : (x : ℕ) → one-at 0 x + ifFull (λ v. 1) x ≡ 1
 unfolding one-at ifFull
 one-or-full x = by-test (eqb x 0) (λ e. rw (e, one-at, ifFull)) (λ e. rw (e, one-at, ifFull))
 
-empty-and-full : {M : Type 0} (𝓣 : Table M) (m : M) (n : ℕ) → slotTotal 𝓣 (one-at 0) m n + slotTotal 𝓣 (ifFull (λ v. 1)) m n ≡ n
+pub empty-and-full : {M : Type 0} (𝓣 : Table M) (m : M) (n : ℕ) → slotTotal 𝓣 (one-at 0) m n + slotTotal 𝓣 (ifFull (λ v. 1)) m n ≡ n
 unfolding slotTotal
 empty-and-full 𝓣 m zero = refl
 empty-and-full 𝓣 m (suc n) = omega (arith, one-or-full (𝓣 .get m n), empty-and-full 𝓣 m n)
@@ -77,8 +78,8 @@ module _ {z : Shape} {img but : List ℕ} {s t c : ℕ} {key value : List ℕ} (
         image = image p;
         tierIn = is-tier p;
         ends = p .rangeEnds;
-        bytes = entry-bytes p;
-        room = entry-room p;
+        bytes = entry-bytes (can-write p) (p .keyBytes) (p .valueBytes);
+        room = entry-room (can-write p);
       }
 
   pub after-is : slotted z (written z img t c key value) t c key ≡ after z img t c key value
@@ -110,6 +111,9 @@ module _ {z : Shape} {img but : List ℕ} {s t c : ℕ} {key value : List ℕ} (
 
   pub place-in : place z img t c key value < slots
   place-in = there .lt
+
+  pub place-empty : slotAt z img t (place z img t c key value) ≡ 0
+  place-empty = sym (same r place-in) ∙ there .free
 
   -- ---- every full slot is reached still
 

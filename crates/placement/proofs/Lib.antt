@@ -9,7 +9,13 @@ pub mod Before
 pub mod Writing
 pub mod Filling
 pub mod Inserting
+pub mod Taking
+pub mod Ranges
 pub mod Kept
+pub mod Standing
 pub mod Refilled
 pub mod Placing
 pub mod Copying
+pub mod Rewriting
+pub mod RewrittenTier
+pub mod Rewritten

@@ -1,6 +1,6 @@
 -- An entry placed step by step: what each step asks, and what the steps give together.
-use Prim.Native.Nat.{ℕ, _+_, _≤_, _<_, _-_, _*_}
-use mathlib.Core.List.{List}
+use Prim.Native.Nat.{ℕ, zero, suc, _+_, _≤_, _<_, _-_, _*_}
+use mathlib.Core.List.{List, [], _∷_, _++_}
 use mathlib.Core.Path.{_≡_, ap, ap₂, _∙_, sym}
 use native.Mathlib.Omega.{arith}
 use native.Mathlib.Nat.{mul-le-mul-right}
@@ -8,6 +8,9 @@ use lib.ListN.{length}
 use lib.Seq.{sets}
 use Rattle.settings.specs.declared.Settings.{Settings}
 use Rattle.xxh64.specs.Hash.{xxh64}
+use Rattle.words.specs.Bytes.{Bytes}
+use Rattle.leb128.specs.Leb128.{encode}
+use Rattle.leb128.proofs.Encode.{bytes-encode}
 use Rattle.layout.specs.declared.Shape.{Shape}
 use Rattle.layout.specs.Tiers.{IsTier}
 use Rattle.layout.specs.Places.{put, tier, slot, putMarks, chunkAt}
@@ -26,7 +29,7 @@ use Rattle.search.specs.declared.Sought.the-variants.{Holds, Empty}
 use Rattle.search.specs.Search.{slotsOf, soughtIn, firstEmpty}
 use Rattle.search.proofs.Finding.{sought-absent}
 use Rattle.placement.specs.declared.NewSlot.{NewSlot}
-use Rattle.placement.specs.Placement.{written, slotted, placeAt}
+use Rattle.placement.specs.Placement.{writeEntry, written, slotted, placeAt}
 use Rattle.placement.specs.Asking.{CanWrite, NewKey}
 
 -- ---- the slot for a new key
@@ -67,6 +70,11 @@ slot-wrote {z} fr img t c n bs it ends room j h =
     get-sets-other fr (putMarks z img t c n 1) t c bs (tier t (slot j)) it (omega arith) room (it, h) (λ i. by-kind (omega arith))
     ∙ get-putMarks-other fr img t c n 1 (tier t (slot j)) it ends (it, h) (λ b. by-kind (omega arith))
 
+bytes-append : (xs ys : List ℕ) → Bytes xs → Bytes ys → Bytes (xs ++ ys)
+bytes-append [] ys hx hy i = hy i
+bytes-append (x ∷ xs) ys hx hy zero = hx zero
+bytes-append (x ∷ xs) ys hx hy (suc i) = bytes-append xs ys (λ j. hx (suc j)) hy i
+
 module _ {z : Shape} {img : List ℕ} {t c : ℕ} {key value : List ℕ} (w : CanWrite z img t c key value) where
   open Shape z using (settings)
   open Settings settings using (slots, chunks, chunkSize)
@@ -97,16 +105,21 @@ module _ {z : Shape} {img : List ℕ} {t c : ℕ} {key value : List ℕ} (w : Ca
       let h : n ≤ chunks - c = omega (arith, w .rangeEnds) in
       omega (arith, entry-fits, mul-le-mul-right chunkSize h)
 
+  pub entry-in-chunks : chunkAt z t c + length (entryBytes settings key value) ≤ chunkAt z t chunks
+  entry-in-chunks = omega (arith, entry-fits, chunk-add z t c n, chunk-inside z t (c + n) (w .rangeEnds))
+
   pub written-inside : chunkAt z t c + length (entryBytes settings key value) ≤ length img
-  written-inside =
-      omega (
-        arith,
-        entry-fits,
-        chunk-add z t c n,
-        chunk-inside z t (c + n) (w .rangeEnds),
-        chunks-inside framed t (w .tier .tierIn),
-        framed .within,
-      )
+  written-inside = omega (arith, entry-in-chunks, chunks-inside framed t (w .tier .tierIn), framed .within)
+
+  -- it is bytes if its key and value are
+  pub entry-bytes : Bytes key → Bytes value → Bytes (entryBytes settings key value)
+  unfolding entryBytes
+  entry-bytes keyBytes valueBytes =
+      let a : List ℕ = encode (length key) in
+      let b : List ℕ = encode (length value) in
+      let ha : Bytes a = bytes-encode (length key) (omega (arith, w .keyLong)) in
+      let hb : Bytes b = bytes-encode (length value) (omega (arith, w .valueLong)) in
+      bytes-append (a ++ key ++ b) value (bytes-append (a ++ key) b (bytes-append a key ha keyBytes) hb) valueBytes
 
   -- writing it moves no slot, and so not the first empty one
   pub firstEmpty-written : firstEmpty z (written z img t c key value) key t ≡ firstEmpty z img key t
@@ -120,11 +133,10 @@ module _ {z : Shape} {img : List ℕ} {t c : ℕ} {key value : List ℕ} (w : Ca
 module _ (z : Shape) (img : List ℕ) (t c : ℕ) (key value : List ℕ) where
   open Shape z using (settings)
 
-  pub written-is : {n at : ℕ} {one two : List ℕ} → n ≡ chunksFor settings (length key) (length value) → one ≡ putMarks z img t c n 1
-      → at ≡ chunkAt z t c → two ≡ sets one at (entryBytes settings key value) → two ≡ written z img t c key value
+  pub written-is : {n : ℕ} {one two : List ℕ} → n ≡ chunksFor settings (length key) (length value) → one ≡ putMarks z img t c n 1
+      → two ≡ writeEntry z one t c key value → two ≡ written z img t c key value
   unfolding written
-  written-is en e₁ ea e₂ =
-      e₂ ∙ ap₂ (λ (x : List ℕ) (k : ℕ). sets x k (entryBytes settings key value)) (e₁ ∙ ap (λ (m : ℕ). putMarks z img t c m 1) en) ea
+  written-is en e₁ e₂ = e₂ ∙ ap (λ (x : List ℕ). writeEntry z x t c key value) (e₁ ∙ ap (λ (m : ℕ). putMarks z img t c m 1) en)
 
   pub placed-is : {lookup j v : ℕ} {one two : List ℕ} → CanWrite z img t c key value → lookup ≡ lookupKey settings key
       → j ≡ firstEmpty z img key t → one ≡ written z img t c key value → v ≡ slotWith settings lookup c

@@ -13,10 +13,13 @@ use Rattle.search.specs.Search.{firstEmpty}
 module _ (z : Shape) where
   open Shape z using (settings)
 
+  -- the entry's own bytes written from chunk c on
+  abbrev pub writeEntry : List ℕ → ℕ → ℕ → List ℕ → List ℕ → List ℕ
+  writeEntry img t c key value = sets img (chunkAt z t c) (entryBytes settings key value)
+
   -- the run marked and the entry written
   unfoldable pub written : List ℕ → ℕ → ℕ → List ℕ → List ℕ → List ℕ
-  written img t c key value =
-      sets (putMarks z img t c (chunksFor settings (length key) (length value)) 1) (chunkAt z t c) (entryBytes settings key value)
+  written img t c key value = writeEntry (putMarks z img t c (chunksFor settings (length key) (length value)) 1) t c key value
 
   -- the slot filled
   unfoldable pub slotted : List ℕ → ℕ → ℕ → List ℕ → List ℕ

@@ -9,7 +9,7 @@ ghost use lib.ListN.{length};
 ghost use lib.Seq.{sets};
 ghost use Rattle.entries.specs.Stored.{entryBytes};
 ghost use Rattle.search.specs.Search.{firstEmpty};
-ghost use Rattle.placement.specs.Placement.{written, placeAt};
+ghost use Rattle.placement.specs.Placement.{writeEntry, written, placeAt};
 ghost use Rattle.placement.specs.Asking.{CanWrite, NewKey, CanPlace};
 
 // The slot for a new key: the empty slot that ends the search for it. Where that is known the tier is not searched again.
@@ -50,6 +50,15 @@ fn write_entry(st: Settings, img: &mut [u8], at: usize, key: &[u8], value: &[u8]
     write_bytes(img, value_at, value);
 }
 
+// Writes them from chunk c of tier t on, and nothing else.
+pub fn write_from(z: Shape, img: &mut [u8], t: usize, c: usize, key: &[u8], value: &[u8])
+    requires { ⌜ CanWrite z (now img) t c (now key) (now value) ⌝ }
+    ensures { λ r. ⌜ now (img .exit) ≡ writeEntry z (now (img .entry)) t c (now (key .entry)) (now (value .entry)) ⌝ }
+{
+    let at = layout::chunk_at(z, t, c);
+    write_entry(z.settings, img, at, key, value);
+}
+
 // Marks the chunks of an entry from c on, and writes it there.
 fn write_at(z: Shape, img: &mut [u8], t: usize, c: usize, key: &[u8], value: &[u8])
     requires { ⌜ CanWrite z (now img) t c (now key) (now value) ⌝ }
@@ -57,8 +66,7 @@ fn write_at(z: Shape, img: &mut [u8], t: usize, c: usize, key: &[u8], value: &[u
 {
     let n = entries::chunks_for(z.settings, key.len(), value.len());
     layout::write::put_marks(z, img, t, c, n, 1);
-    let at = layout::chunk_at(z, t, c);
-    write_entry(z.settings, img, at, key, value);
+    write_from(z, img, t, c, key, value);
 }
 
 // Places an entry in tier t, in the chunks from c on.

@@ -5,20 +5,20 @@ use super::Run;
 use layout::Shape;
 use search::Sought;
 ghost use Rattle.placement.specs.OldEntry.{noOld};
-ghost use Rattle.placement.specs.Asking.{CanScan, CanWalk};
-ghost use Rattle.placement.specs.Walking.{SpotAfter, Walked, PlaceIs};
+ghost use Rattle.placement.specs.Asking.{CanScan, CanScanRest, CanWalk};
+ghost use Rattle.placement.specs.Walking.{CandidateAfter, Walked, PlaceAfter};
 
 // Of the tiers that the search has passed, the first that takes the entry, and the empty slot that ended the search there.
-pub struct Spot {
+pub struct Candidate {
     run: Run,
     slot: usize,
 }
 
-// The walk up to the tier that holds the key: the entry there, how many tiers it has passed, and the spot in those.
+// The walk up to the tier that holds the key: the entry there, how many tiers it has passed, and the candidate in those.
 pub struct Walk {
-    old: Old,
-    passed: usize,
-    spot: Spot,
+    pub old: Old,
+    pub passed: usize,
+    pub candidate: Candidate,
 }
 
 // Where the entry goes, and the entry that it replaces. The slot is known in a tier that the search has passed.
@@ -28,23 +28,23 @@ pub struct EntryPlace {
     pub slot: NewSlot,
 }
 
-// The spot, or else tier t, where the search ended at slot j.
-fn or_tier(z: Shape, img: &[u8], spot: Spot, t: usize, j: usize, n: usize) -> Spot
+// The candidate, or else tier t, where the search ended at slot j.
+fn or_tier(z: Shape, img: &[u8], candidate: Candidate, t: usize, j: usize, n: usize) -> Candidate
     requires { ⌜ CanScan z (now img) noOld t n ⌝ }
-    ensures { λ r. ⌜ SpotAfter z (now (img .entry)) n spot t j r ⌝ }
+    ensures { λ r. ⌜ CandidateAfter z (now (img .entry)) n candidate t j r ⌝ }
 {
-    let run = spot.run;
+    let run = candidate.run;
     let Run::Nowhere = run else {
-        return spot;
+        return candidate;
     };
-    Spot {
+    Candidate {
         run: super::runs::run_in(z, img, Old::none(), t, n),
         slot: j,
     }
 }
 
 // The walk for an entry of n chunks.
-fn walk_chain(z: Shape, img: &[u8], key: &[u8], n: usize) -> Walk
+pub fn walk_chain(z: Shape, img: &[u8], key: &[u8], n: usize) -> Walk
     requires { ⌜ CanWalk z (now img) (now key) n ⌝ }
     ensures { λ r. ⌜ Walked z (now (img .entry)) (now (key .entry)) n r ⌝ }
 {
@@ -52,7 +52,7 @@ fn walk_chain(z: Shape, img: &[u8], key: &[u8], n: usize) -> Walk
     let lookup = entries::keys::lookup_of_hash(z.settings, h);
     let most = layout::tier_count(z);
     let mut t = entries::keys::segment_of_hash(z.settings, h) + 1;
-    let mut spot = Spot {
+    let mut candidate = Candidate {
         run: Run::Nowhere,
         slot: 0,
     };
@@ -62,7 +62,7 @@ fn walk_chain(z: Shape, img: &[u8], key: &[u8], n: usize) -> Walk
             return Walk {
                 old: Old::none(),
                 passed: k,
-                spot: spot,
+                candidate: candidate,
             };
         }
         let sought = search::seek(z, img, key, lookup, t);
@@ -71,11 +71,11 @@ fn walk_chain(z: Shape, img: &[u8], key: &[u8], n: usize) -> Walk
                 return Walk {
                     old: Old::at(z, img, t, j),
                     passed: k,
-                    spot: spot,
+                    candidate: candidate,
                 };
             }
             Sought::Empty(j) => {
-                spot = or_tier(z, img, spot, t, j, n);
+                candidate = or_tier(z, img, candidate, t, j, n);
             }
         }
         t = layout::read::next_of(z, img, t) as usize;
@@ -84,24 +84,23 @@ fn walk_chain(z: Shape, img: &[u8], key: &[u8], n: usize) -> Walk
     Walk {
         old: Old::none(),
         passed: k,
-        spot: spot,
+        candidate: candidate,
     }
 }
 
-// Where an entry of n chunks goes: the old entry counts as removed.
-pub fn place_for(z: Shape, img: &[u8], key: &[u8], n: usize) -> EntryPlace
-    requires { ⌜ CanWalk z (now img) (now key) n ⌝ }
-    ensures { λ r. ⌜ PlaceIs z (now (img .entry)) (now (key .entry)) n r ⌝ }
+// Where an entry of n chunks goes after the walk: the old entry counts as removed.
+pub fn place_for(z: Shape, img: &[u8], w: Walk, n: usize) -> EntryPlace
+    requires { ⌜ CanScanRest z (now img) (w .old) (w .passed) n ⌝ }
+    ensures { λ r. ⌜ PlaceAfter z (now (img .entry)) n w r ⌝ }
 {
-    let w = walk_chain(z, img, key, n);
     let old = w.old;
-    let spot = w.spot;
-    let run = spot.run;
+    let candidate = w.candidate;
+    let run = candidate.run;
     let Run::Nowhere = run else {
         return EntryPlace {
             old: old,
             run: run,
-            slot: NewSlot::Known(spot.slot),
+            slot: NewSlot::Known(candidate.slot),
         };
     };
     EntryPlace {

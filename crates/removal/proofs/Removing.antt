@@ -97,7 +97,7 @@ module _ (z : Shape) (img : List ℕ) {but : List ℕ} (sound : SoundBut z img b
   removal-full = omega (arith, full-total z after tier, full-total z img tier, sums removable (λ v. 1))
 
   pub removal-full-other : (u : ℕ) → IsTier z u → u ≢ e .tier → length (fullSlots z (removeEntry z img e) u) ≡ length (fullSlots z img u)
-  removal-full-other u iu ne = ap length (same-full z img after u (only .others u iu ne))
+  removal-full-other u iu ne = ap length (same-full z img after u (only .others u iu ne .slots))
 
   -- ---- the pairs
 

@@ -8,10 +8,10 @@ use lib.ListN.{length}
 use Rattle.words.specs.Bytes.{cut}
 use Rattle.layout.specs.declared.Shape.{Shape}
 use Rattle.layout.specs.Tiers.{IsTier}
-use Rattle.layout.specs.Places.{Global, Header, Counter, Place, global, tier, slot, counter, usedTiers, firstFree, previous, segment, order, next, nextTier, entryCount, count, lowestFree, low, In, get, put, mark, putMarks, sharedPlace, chunkAt}
+use Rattle.layout.specs.Places.{Place, tier, slot, In, get, put, mark, putMarks, chunkAt}
 use Rattle.layout.specs.Frame.{Framed, Image}
-use Rattle.layout.proofs.Places.{length-put, image-put, get-other, by-kind, shared-in, shared-slot, shared-free}
-use Rattle.layout.proofs.Marks.{NoFree, mark-put-other, length-putMarks, image-putMarks, get-putMarks-other, mark-putMarks-tier}
+use Rattle.layout.proofs.Places.{length-put, image-put, get-other, by-kind}
+use Rattle.layout.proofs.Marks.{NoFree, mark-put-other, length-putMarks, image-putMarks, get-putMarks-other}
 use Rattle.layout.proofs.Chunks.{cut-put-chunks, cut-putMarks-chunks}
 use Rattle.probe.specs.Removal.{remove}
 use Rattle.probe.proofs.Removal.{remove-keeps}
@@ -19,8 +19,9 @@ use Rattle.entries.specs.Live.{slotAt}
 use Rattle.search.specs.Search.{slotsOf}
 use Rattle.search.proofs.Slots.{slots-lawful}
 use Rattle.removal.specs.Removal.{removeAt}
-use Rattle.sound.proofs.AgreeTier.{SameBytes}
+use Rattle.sound.proofs.AgreeEntry.{SameBytes}
 use Rattle.sound.proofs.Replaced.{OnlyTier}
+use Rattle.sound.proofs.Elsewhere.{only-elsewhere}
 
 -- a place that is no slot of tier t
 abbrev pub NoSlot : ℕ → Place → Type 0
@@ -83,44 +84,12 @@ module _ {z : Shape} {img : List ℕ} (im : Image z img) (t : ℕ) (is : IsTier 
   unfolding removeAt
   stays = remove-stays (im .framed) t is old j cleared-image hj
 
-  pub same-place : (p : Place) → In z p → NoSlot t p → NoFree t p → get z new p ≡ get z img p
+  same-place : (p : Place) → In z p → NoSlot t p → NoFree t p → get z new p ≡ get z img p
   same-place p h ns nf = stays .places p h ns ∙ get-putMarks-other (im .framed) img t c n 0 p is fits h nf
 
   pub same-bytes : (u : ℕ) → IsTier z u → SameBytes z img new u
   same-bytes u iu = stays .bytes u iu ∙ whole-cut z img old u (cut-putMarks-chunks (im .framed) img t c n 0 u 0 is fits iu (omega arith))
 
-  same-shared : (f : Header) (g : Counter) (u : ℕ) → IsTier z u → get z new (sharedPlace z f g u) ≡ get z img (sharedPlace z f g u)
-  same-shared f g u iu = same-place (sharedPlace z f g u) (shared-in z f g u iu) (λ k. shared-slot z f g u t k) (λ b. shared-free z f g u t b)
-
-  same-global : (f : Global) → get z new (global f) ≡ get z img (global f)
-  same-global f = same-place (global f) tt (λ k e. let y : _≡_ {A = ℕ} 0 1 = cc in omega arith) (λ b e. let y : _≡_ {A = ℕ} 0 1 = cc in omega arith)
-
-  same-counter : (f : Counter) (u : ℕ) → IsTier z u → get z new (tier u (counter f)) ≡ get z img (tier u (counter f))
-  same-counter f u iu =
-      same-place (tier u (counter f)) (iu, tt) (λ k e. let y : _≡_ {A = ℕ} 0 1 = cc in omega arith)
-      (λ b e. let y : _≡_ {A = ℕ} 0 1 = cc in omega arith)
-
-  same-slots : (u : ℕ) → IsTier z u → u ≢ t → (k : ℕ) → k < z .settings .slots → slotAt z new u k ≡ slotAt z img u k
-  same-slots u iu ne k hk = same-place (tier u (slot k)) (iu, hk) (λ i e. ne (cc)) (λ b. by-kind (omega arith))
-
-  pub same-mark : (u i : ℕ) → IsTier z u → u ≢ t → i < z .settings .chunks → mark z new u i ≡ mark z img u i
-  same-mark u i iu ne k = stays .marks u i iu k ∙ mark-putMarks-tier (im .framed) img t c n 0 u i is iu ne fits k
-
   pub removeAt-only : OnlyTier z img new t
   removeAt-only =
-      record {
-        image = stays .image;
-        long = stays .long ∙ length-putMarks z img t c n 0;
-        globals = same-global;
-        chains =
-            record {
-              nexts = λ u iu. same-shared nextTier next u iu;
-              previous = λ u iu. same-counter previous u iu;
-              segment = λ u iu. same-counter segment u iu;
-              order = λ u iu. same-counter order u iu;
-              head = same-global firstFree;
-              used = same-global usedTiers;
-            };
-        others = λ u iu ne. record { slots = same-slots u iu ne; marks = λ i k. same-mark u i iu ne k; bytes = same-bytes u iu };
-        counts = λ u iu ne. record { count = same-shared entryCount count u iu; low = same-shared lowestFree low u iu };
-      }
+      only-elsewhere z img new t (stays .image) (stays .long ∙ length-putMarks z img t c n 0) (λ p h e. same-place p h (e .slots) (e .free))

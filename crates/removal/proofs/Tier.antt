@@ -26,7 +26,7 @@ use Rattle.removal.specs.Removal.{removeAt}
 use Rattle.sound.proofs.Values.{entryFor, ifFull}
 use Rattle.lists.proofs.Totals.{howMany-total}
 use Rattle.sound.proofs.Sums.{liveIn-total}
-use Rattle.sound.proofs.AgreeTier.{SameBytes, Moved, same-stored, entry-moves}
+use Rattle.sound.proofs.AgreeEntry.{SameBytes, Moved, same-stored, entry-moves}
 use Rattle.sound.proofs.Replaced.{TierAgain}
 use Rattle.removal.proofs.Slots.{cleared, stays, same-bytes}
 use Rattle.removal.proofs.Numbers.{Removable, range-in, sums, new-empty, new-good, stood, stood-once}

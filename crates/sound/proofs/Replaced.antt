@@ -25,7 +25,8 @@ use Rattle.lists.proofs.Totals.{total-change}
 use Rattle.sound.proofs.Sums.{pairs-total}
 use Rattle.chains.proofs.Chained.{chain-segment, free-not-chained, chained-once, chained-in}
 use Rattle.chains.proofs.Tiers.{chain-tiers, free-tiers}
-use Rattle.sound.proofs.AgreeTier.{SameTier, SameCounters, Moved, entry-moves, same-tier-fits, same-marks, same-counters, same-free, same-weigh}
+use Rattle.sound.proofs.AgreeEntry.{entry-moves}
+use Rattle.sound.proofs.AgreeTier.{SameSlots, SameTier, SameCounters, full-before, same-tier-fits, same-marks, same-counters, same-free, same-weigh}
 use Rattle.chains.proofs.AgreeChains.{SameChains, same-chain, same-freeChain, same-chained, same-chains-fit}
 
 pub record OnlyTier (z : Shape) (img img′ : List ℕ) (t : ℕ) : Type 0 where
@@ -53,22 +54,30 @@ module _ (z : Shape) (img : List ℕ) (s t : ℕ) (hs : s < z .settings .segment
   open Shape z using (settings)
   open Settings settings using (segments, slots, chunks)
 
-  -- a tier that was not changed
-  pub tier-stays : (img′ : List ℕ) → SameTier z img img′ t → TierAgain z img img′ s t
-  tier-stays img′ same =
-      let fits : TierSlotsFit z img s t = sound .fits .entries .tiersFit s hs t m in
-      let full : (j : ℕ) → j < z .settings .slots → slotAt z img′ t j ≢ 0 → slotAt z img t j ≢ 0 = λ j h ne e. ne (same .slots j h ∙ e) in
-      let key : (j : ℕ) → j < z .settings .slots → slotAt z img′ t j ≢ 0 → keyAt z img′ t j ≡ keyAt z img t j =
-      λ j h ne. entry-moves z img img′ t (same .bytes) s j j (same .slots j h) (fits .slotsFit .full j h (full j h ne)) .key in
+  -- a tier whose slots agree and stand for the same keys
+  pub keys-stay : (img′ : List ℕ) → SameSlots z img img′ t → Below slots (λ j. slotAt z img t j ≢ 0 → keyAt z img′ t j ≡ keyAt z img t j)
+      → TierSlotsFit z img′ s t → MarksFit z img′ s t → TierAgain z img img′ s t
+  keys-stay img′ same keys fits marks =
+      let full : (j : ℕ) → j < slots → slotAt z img′ t j ≢ 0 → slotAt z img t j ≢ 0 = full-before z img img′ t same in
+      let key : (j : ℕ) → j < slots → slotAt z img′ t j ≢ 0 → keyAt z img′ t j ≡ keyAt z img t j = λ j h ne. keys j h (full j h ne) in
       record {
-        fits = same-tier-fits z img img′ t same s fits;
-        marks = same-marks z img img′ t same s (sound .fits .chunks .marks s hs t m);
+        fits = fits;
+        marks = marks;
         own =
             λ j k hj hk fj fk e.
             sound .fits .entries .keysOnce s hs t m j hj (full j hj fj) t m k hk (full k hk fk)
             (sym (key j hj fj) ∙ e ∙ key k hk fk) .1;
         apart = λ u mu ne j k hj hk fj fk e. ne (sym (sound .fits .entries .keysOnce s hs t m j hj (full j hj fj) u mu k hk fk (sym (key j hj fj) ∙ e) .0));
       }
+
+  -- a tier that was not changed
+  pub tier-stays : (img′ : List ℕ) → SameTier z img img′ t → TierAgain z img img′ s t
+  tier-stays img′ same =
+      let fits : TierSlotsFit z img s t = sound .fits .entries .tiersFit s hs t m in
+      keys-stay img′ (same .slots)
+      (λ j h full. entry-moves z img img′ t (same .bytes) s j j (same .slots j h) (fits .slotsFit .full j h full) .key)
+      (same-tier-fits z img img′ t same s fits)
+      (same-marks z img img′ t same s (sound .fits .chunks .marks s hs t m))
 
   module _ (img′ : List ℕ) (only : OnlyTier z img img′ t) where
     -- what holds of the changed tier in its segment, and of the other tiers of a segment's chain
@@ -92,13 +101,11 @@ module _ (z : Shape) (img : List ℕ) (s t : ℕ) (hs : s < z .settings .segment
 
       -- a full slot was full and stands for the same key
       other-full : (k : ℕ) → k < slots → slotAt z img′ u k ≢ 0 → slotAt z img u k ≢ 0
-      other-full k hk full e = full (other .slots k hk ∙ e)
+      other-full = full-before z img img′ u (other .slots)
 
       other-key : (k : ℕ) → k < slots → slotAt z img′ u k ≢ 0 → keyAt z img′ u k ≡ keyAt z img u k
       other-key k hk full =
-          let moved : Moved z img img′ s′ u k k =
-          entry-moves z img img′ u (other .bytes) s′ k k (other .slots k hk) (other-fits .slotsFit .full k hk (other-full k hk full)) in
-          moved .key
+          entry-moves z img img′ u (other .bytes) s′ k k (other .slots k hk) (other-fits .slotsFit .full k hk (other-full k hk full)) .key
 
     module _ (a : TierAgain z img img′ s t) where
       -- the keys of slot j of tier v and slot k of tier u are one key only if the slots are one
@@ -144,7 +151,7 @@ module _ (z : Shape) (img : List ℕ) (s t : ℕ) (hs : s < z .settings .segment
         let mu₀ : List·Memᴰ u (chain z img s′) = subst (List·Memᴰ u) (same-chain z img img′ (sound .fits .chains) (only .chains) s′ h) mu in
         let is : IsTier z u = chain-tiers z img (sound .fits .chains) s′ h u mu₀ in
         let ne : u ≢ t = λ e. out (List·Memᴰ·head e) in
-        same-counters z img img′ u (only .others u is ne) (only .counts u is ne)
+        same-counters z img img′ u (only .others u is ne .slots) (only .others u is ne .marks) (only .counts u is ne)
         (sound .fits .chunks .counters s′ h u mu₀ (λ k. out (List·Memᴰ·tail k)))
 
     pub tier-replaced : TierAgain z img img′ s t → SoundBut z img′ (t ∷ but)
@@ -168,8 +175,8 @@ module _ (z : Shape) (img : List ℕ) (s t : ℕ) (hs : s < z .settings .segment
                   λ u mu.
                   let mu₀ : List·Memᴰ u (freeChain z img) = subst (List·Memᴰ u) free-is mu in
                   let is : IsTier z u = free-tiers z img (sound .fits .chains .freeFits) u mu₀ in
-                  same-free z img img′ u (only .others u is (free-not-chained z img (sound .fits .chains) s t u hs m mu₀))
-                  (sound .fits .chunks .free u mu₀);
+                  let same : SameTier z img img′ u = only .others u is (free-not-chained z img (sound .fits .chains) s t u hs m mu₀) in
+                  same-free z img img′ u (same .slots) (same .marks) (sound .fits .chunks .free u mu₀);
             };
           };
         }

@@ -1,12 +1,14 @@
 -- A sound image, whatever is asked of its counters: it is an image of its shape, and its rules in other words.
 use Prim.Native.Nat.{ℕ}
-use mathlib.Core.List.{List, [], List·Memᴰ, List·Memᴰ·not-nil}
-use mathlib.Core.Path.{sym, subst}
+use mathlib.Core.List.{List, [], _∷_, List·Memᴰ, List·Memᴰ·not-nil, List·Memᴰ·cases-cons}
+use mathlib.Core.Path.{_≡_, sym, subst}
+use mathlib.Core.Logic.{_≢_, ⊎-elim}
 use lib.ListN.{length}
+use Rattle.lists.specs.Cases.{same-or}
 use Rattle.layout.specs.declared.Shape.{Shape}
 use Rattle.layout.specs.Frame.{FrameFits, Framed, Image}
 use Rattle.layout.proofs.Frames.{framed}
-use Rattle.chunks.specs.Chunks.{ChunksFit}
+use Rattle.chunks.specs.Chunks.{CountersFit, ChunksFit}
 use Rattle.sound.specs.Sound.{ChunksFitBut, SoundWith, SoundImage, SoundBut}
 
 module _ (z : Shape) (img : List ℕ) where
@@ -57,3 +59,18 @@ module _ (z : Shape) (img : List ℕ) where
   but-more {but} g =
       sound-as (λ (f : ChunksFitBut z img but).
       record { marks = f .marks; counters = λ s h t m out. f .counters s h t m (λ k. out (g t k)); free = f .free })
+
+  -- but for one tier less, whose counters fit
+  pub but-less : {t : ℕ} {but : List ℕ} → CountersFit z img t → SoundBut z img (t ∷ but) → SoundBut z img but
+  but-less {t} {but} fit =
+      sound-as (λ (f : ChunksFitBut z img (t ∷ but)).
+      record {
+        marks = f .marks;
+        counters =
+            λ s h u m out.
+            ⊎-elim
+            (λ (e : u ≡ t). rw e fit)
+            (λ (ne : u ≢ t). f .counters s h u m (λ k. ⊎-elim (λ e. ne e) out (List·Memᴰ·cases-cons k)))
+            (same-or u t);
+        free = f .free;
+      })

@@ -1,19 +1,20 @@
 -- Sums over a tier's slots and over the live entries.
-use Prim.Native.Nat.{ℕ, zero, suc, _+_}
+use Prim.Native.Nat.{ℕ, zero, suc, _+_, _<_}
 use mathlib.Core.List.{List, [], _∷_, _++_}
 use mathlib.Core.Path.{_≡_, refl, ap, sym, _∙_}
 use mathlib.Core.Logic.{⊎-elim, _≢_}
-use mathlib.Core.Bool.{Bool, true, false, not}
+use mathlib.Core.Bool.{true, false, not}
 use native.Mathlib.Omega.{arith}
-use native.Mathlib.Numerals.{add-one}
+use native.Mathlib.Nat.{zero-add}
 use lib.Dec.{eqb}
 use lib.ListN.{length}
 use borrow.Author.Tests.{eq-eqb, ne-eqb}
 use Rattle.lists.specs.Cases.{same-or}
 use Rattle.lists.specs.Lists.{span, below, those, total}
 use Rattle.lists.specs.Quantify.{Below}
-use Rattle.lists.proofs.Lists.{total-append}
-use Rattle.lists.proofs.Rows.{those-more, those-same}
+use Rattle.lists.proofs.Lists.{span-in, span-more, total-append}
+use Rattle.lists.proofs.Rows.{howMany-span-in}
+use Rattle.settings.specs.declared.Settings.{Settings}
 use Rattle.layout.specs.declared.Shape.{Shape}
 use Rattle.chains.specs.Chains.{chain, chained}
 use Rattle.probe.specs.Table.{Table, slotTotal}
@@ -22,57 +23,34 @@ use Rattle.entries.specs.Live.{slotAt, fullSlots, entryAt, liveAt, liveIn, live
 use Rattle.search.specs.Search.{slotsOf}
 use Rattle.entries.specs.Pairs.{Pair, pairOf, pairsOf}
 use Rattle.sound.proofs.Values.{pairFor, ifFull, full-is, empty-is, weigh}
-use Rattle.lists.proofs.Totals.{total-map, total-flatMap, total-same, length-total}
+use Rattle.lists.proofs.Totals.{total-map, total-flatMap, total-same, total-change, those-total, length-total}
 
 -- ---- over a tier's slots
 
 module _ {M : Type 0} (𝓣 : Table M) (m : M) where
   open Table 𝓣 using (get)
 
-  abbrev full : ℕ → Bool
-  full j = not (eqb (get m j) 0)
-
-  -- one slot more: full, or empty
-  more-full : (g : ℕ → ℕ) (n : ℕ) → get m n ≢ 0 → total (those (below (suc n)) full) g ≡ g n + total (those (below n) full) g
-  unfolding total
-  more-full g n h =
-      let here : full n ≡ true = rw (ne-eqb (get m n) 0 h) in
-      let more : those (below (suc n)) full ≡ those (below n) full ++ (n ∷ []) = rw (← add-one n) (those-more full n here) in
-      omega (arith, ap (λ (r : List ℕ). total r g) more, total-append g (those (below n) full) (n ∷ []))
-
-  more-empty : (g : ℕ → ℕ) (n : ℕ) → get m n ≡ 0 → total (those (below (suc n)) full) g ≡ total (those (below n) full) g
-  more-empty g n h =
-      let here : full n ≡ false = rw (eq-eqb (get m n) 0 h) in
-      ap (λ (r : List ℕ). total r g) (rw (← add-one n) (those-same full n here))
-
-  none-full : (g : ℕ → ℕ) → total (those (below 0) full) g ≡ 0
-  unfolding total those span
-  none-full g = refl
+  -- slot by slot
+  as-list : (f : ℕ → ℕ) (n : ℕ) → slotTotal 𝓣 f m n ≡ total (below n) (λ j. f (get m j))
+  unfolding slotTotal total span
+  as-list f zero = refl
+  as-list f (suc n) =
+      let g : ℕ → ℕ = λ j. f (get m j) in
+      let more : below (suc n) ≡ below n ++ (n ∷ []) = rw (span-more 0 n, zero-add) in
+      omega (arith, ap (λ (r : List ℕ). total r g) more, total-append g (below n) (n ∷ []), as-list f n)
 
   -- over the full ones of the first n slots
   full-slots : (g f : ℕ → ℕ) (n : ℕ) → Below n (λ j. get m j ≢ 0 → g j ≡ f (get m j))
-      → total (those (below n) full) g ≡ slotTotal 𝓣 (ifFull f) m n
-  unfolding slotTotal
-  full-slots g f zero e = none-full g
-  full-slots g f (suc n) e =
-      let rest : total (those (below n) full) g ≡ slotTotal 𝓣 (ifFull f) m n = full-slots g f n (λ j l. e j (omega arith)) in
+      → total (those (below n) (λ j. not (eqb (get m j) 0))) g ≡ slotTotal 𝓣 (ifFull f) m n
+  full-slots g f n e =
+      those-total (λ j. not (eqb (get m j) 0)) g (below n)
+      ∙ total-same (below n) (λ j. ifFull f (get m j)) (λ j. elim (not (eqb (get m j) 0)) [ true ↦ g j | false ↦ 0 ])
+      (λ j k.
       ⊎-elim
-      (λ (q : get m n ≡ 0). omega (arith, more-empty g n q, empty-is f (get m n) q))
-      (λ (q : get m n ≢ 0). omega (arith, more-full g n q, full-is f (get m n) q, e n (omega arith) q))
-      (same-or (get m n) 0)
-
-  slots-same : (m′ : M) (f f′ : ℕ → ℕ) (n : ℕ) → Below n (λ j. get m′ j ≡ get m j) → Below n (λ j. get m j ≢ 0 → f′ (get m j) ≡ f (get m j))
-      → slotTotal 𝓣 (ifFull f′) m′ n ≡ slotTotal 𝓣 (ifFull f) m n
-  unfolding slotTotal
-  slots-same m′ f f′ zero e g = refl
-  slots-same m′ f f′ (suc n) e g =
-      let rest : slotTotal 𝓣 (ifFull f′) m′ n ≡ slotTotal 𝓣 (ifFull f) m n =
-      slots-same m′ f f′ n (λ j l. e j (omega arith)) (λ j l. g j (omega arith)) in
-      let here : ifFull f′ (get m′ n) ≡ ifFull f′ (get m n) = ap (ifFull f′) (e n (omega arith)) in
-      ⊎-elim
-      (λ (q : get m n ≡ 0). omega (arith, empty-is f (get m n) q, empty-is f′ (get m n) q))
-      (λ (q : get m n ≢ 0). omega (arith, full-is f (get m n) q, full-is f′ (get m n) q, g n (omega arith) q))
-      (same-or (get m n) 0)
+      (λ (q : get m j ≡ 0). rw (eq-eqb (get m j) 0 q) (sym (empty-is f (get m j) q)))
+      (λ (q : get m j ≢ 0). rw (ne-eqb (get m j) 0 q) (e j (omega (arith, span-in 0 n j k)) q ∙ sym (full-is f (get m j) q)))
+      (same-or (get m j) 0))
+      ∙ sym (as-list (ifFull f) n)
 
 module _ (z : Shape) (img : List ℕ) where
   pub full-total : (t : ℕ) → length (fullSlots z img t) ≡ slotTotal (slotsOf z t) (ifFull (λ v. 1)) img (z .settings .slots)
@@ -105,9 +83,48 @@ module _ (z : Shape) (img : List ℕ) where
       (total-same ss (λ s. total (chain z img s) W) (λ s. total (liveOf z img s) G) (λ s m. one s) ∙
       sym (total-flatMap (chain z img) ss W)))
 
--- two tables that agree slot by slot have the same sums, of what is the same for each number that a slot holds
-pub table-same : (z : Shape) (t : ℕ) (img img′ : List ℕ) (f f′ : ℕ → ℕ)
-    → Below (z .settings .slots) (λ j. slotAt z img′ t j ≡ slotAt z img t j)
-    → Below (z .settings .slots) (λ j. slotAt z img t j ≢ 0 → f′ (slotAt z img t j) ≡ f (slotAt z img t j))
-    → slotTotal (slotsOf z t) (ifFull f′) img′ (z .settings .slots) ≡ slotTotal (slotsOf z t) (ifFull f) img (z .settings .slots)
-table-same z t img img′ f f′ e g = slots-same (slotsOf z t) img img′ f f′ (z .settings .slots) e g
+-- ---- two tables that agree slot by slot
+
+module _ (z : Shape) (t : ℕ) (img img′ : List ℕ) (f f′ : ℕ → ℕ) (same : Below (z .settings .slots) (λ j. slotAt z img′ t j ≡ slotAt z img t j)) where
+  open Shape z using (settings)
+  open Settings settings using (slots)
+
+  abbrev now : ℕ
+  now = slotTotal (slotsOf z t) (ifFull f′) img′ slots
+
+  abbrev before : ℕ
+  before = slotTotal (slotsOf z t) (ifFull f) img slots
+
+  -- a slot adds the same if the two agree on the number that it holds
+  adds-same : (j : ℕ) → j < slots → (slotAt z img t j ≢ 0 → f′ (slotAt z img t j) ≡ f (slotAt z img t j))
+      → ifFull f′ (slotAt z img′ t j) ≡ ifFull f (slotAt z img t j)
+  adds-same j h e =
+      ap (ifFull f′) (same j h)
+      ∙ ⊎-elim
+      (λ (q : slotAt z img t j ≡ 0). empty-is f′ (slotAt z img t j) q ∙ sym (empty-is f (slotAt z img t j) q))
+      (λ (q : slotAt z img t j ≢ 0). full-is f′ (slotAt z img t j) q ∙ e q ∙ sym (full-is f (slotAt z img t j) q))
+      (same-or (slotAt z img t j) 0)
+
+  -- they have the same sums, of what is the same for each number that a slot holds
+  pub table-same : Below slots (λ j. slotAt z img t j ≢ 0 → f′ (slotAt z img t j) ≡ f (slotAt z img t j)) → now ≡ before
+  table-same e =
+      as-list (slotsOf z t) img′ (ifFull f′) slots
+      ∙ total-same (below slots) (λ j. ifFull f (slotAt z img t j)) (λ j. ifFull f′ (slotAt z img′ t j))
+      (λ j m. let h : j < slots = omega (arith, span-in 0 slots j m) in adds-same j h (e j h))
+      ∙ sym (as-list (slotsOf z t) img (ifFull f) slots)
+
+  -- of what is the same for each slot but one
+  pub table-change : (j : ℕ) → j < slots → slotAt z img t j ≢ 0
+      → Below slots (λ k. k ≢ j → slotAt z img t k ≢ 0 → f′ (slotAt z img t k) ≡ f (slotAt z img t k))
+      → now + f (slotAt z img t j) ≡ before + f′ (slotAt z img t j)
+  table-change j hj full e =
+      omega (
+        arith,
+        as-list (slotsOf z t) img′ (ifFull f′) slots,
+        as-list (slotsOf z t) img (ifFull f) slots,
+        total-change (below slots) j (λ k. ifFull f (slotAt z img t k)) (λ k. ifFull f′ (slotAt z img′ t k))
+            (howMany-span-in 0 slots j (omega arith) (omega arith))
+            (λ k m ne. let h : k < slots = omega (arith, span-in 0 slots k m) in adds-same k h (e k h ne)),
+        full-is f (slotAt z img t j) full,
+        ap (ifFull f′) (same j hj) ∙ full-is f′ (slotAt z img t j) full,
+      )

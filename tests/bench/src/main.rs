@@ -71,21 +71,26 @@ fn once(best: &mut f64, edit: impl FnOnce() -> u32) {
     *best = best.min(t.elapsed().as_secs_f64());
 }
 
-/// Each side edits an image of its own: a key is removed and stored again, then a new key is stored behind all others and removed.
+/// Each side edits an image of its own: a key is removed, stored again and replaced by both kinds of store, then a new key is stored behind all
+/// others and removed.
 fn edits(s: &Store, size: &str) {
     let (b, k) = (&s.block, &s.keys);
     let (mut mine, mut other) = (s.image.clone(), s.image.clone());
     let rounds = if mine.len() > 1_000_000 { 9 } else { (2_000_000 / mine.len()).clamp(25, 400) };
     let ok = |r: Result<(), chronicle_map::Refusal>| r.map_or_else(|e| e.number(), |()| 0);
     let gone = |r: Result<bool, chronicle_map::Refusal>| r.map_or_else(|e| e.number(), |there| !there as u32);
-    let record = [1, 2, 3, 4];
-    let [mut stores, mut removes, mut appends] = [(f64::MAX, f64::MAX); 3];
+    let (record, another) = ([1, 2, 3, 4], [5, 6, 7, 8]);
+    let [mut stores, mut removes, mut replaces, mut tight, mut appends] = [(f64::MAX, f64::MAX); 5];
     for i in 0..rounds {
         let key = &k[i * 37 % k.len()];
         once(&mut removes.0, || gone(chronicle_map::remove(b, &mut mine, key)));
         once(&mut removes.1, || reference::remove(b, &mut other, key));
         once(&mut stores.0, || ok(chronicle_map::store(b, &mut mine, key, &record)));
         once(&mut stores.1, || reference::store(b, &mut other, key, &record));
+        once(&mut replaces.0, || ok(chronicle_map::store(b, &mut mine, key, &another)));
+        once(&mut replaces.1, || reference::store(b, &mut other, key, &another));
+        once(&mut tight.0, || ok(chronicle_map::store_tight(b, &mut mine, key, &record)));
+        once(&mut tight.1, || reference::store_tight(b, &mut other, key, &record));
         let new = format!("new {i}");
         once(&mut appends.0, || ok(chronicle_map::store(b, &mut mine, new.as_bytes(), &record)));
         once(&mut appends.1, || reference::store(b, &mut other, new.as_bytes(), &record));
@@ -94,6 +99,8 @@ fn edits(s: &Store, size: &str) {
     }
     row("store", size, stores);
     row("remove", size, removes);
+    row("store, replaced on the spot", size, replaces);
+    row("store_tight, replaced", size, tight);
     row("store, new key", size, appends);
 }
 

@@ -4,6 +4,7 @@ use crate::channels;
 use crate::compare::{Outcome, Pair};
 use crate::damage::Verdict;
 use crate::draw;
+use crate::kinds::Kind;
 use crate::plan::Plan;
 use crate::rng::Rng;
 
@@ -23,9 +24,7 @@ pub fn all_calls(
     }
     for _ in 0..2 {
         pair.lookup(&draw::offered_key(rng, plan, keys))?;
-        let key = draw::offered_key(rng, plan, keys);
-        let value = draw::offered_value(rng, plan, key.len());
-        pair.store(&key, &value)?;
+        both_stores(rng, plan, keys, pair)?;
         pair.remove(&draw::offered_key(rng, plan, keys))?;
         pair.entry(rng.below(4) as u64)?;
         pair_calls(rng, keys, pair, number)?;
@@ -34,8 +33,23 @@ pub fn all_calls(
     pair.lookup(&long)?;
     pair.remove(&[])?;
     if rng.percent(5) {
-        pair.store(&long, &vec![0; 65_536])?;
-        pair.store(&[1], &vec![0; 65_536])?;
+        let kind = *rng.pick(&[Kind::OnTheSpot, Kind::Tight]);
+        pair.store(kind, &long, &vec![0; 65_536])?;
+        pair.store(kind, &[1], &vec![0; 65_536])?;
+    }
+    Ok(())
+}
+
+/// Both kinds of store of one key and record. The second gets the number of
+/// the first: it is refused again, or replaces what the first has stored.
+fn both_stores(rng: &mut Rng, plan: &Plan, keys: &[Vec<u8>], pair: &mut Pair) -> Outcome<()> {
+    let key = draw::offered_key(rng, plan, keys);
+    let value = draw::offered_value(rng, plan, key.len());
+    let first = *rng.pick(&[Kind::OnTheSpot, Kind::Tight]);
+    let number = pair.store(first, &key, &value)?;
+    let second = pair.store(first.other(), &key, &value)?;
+    if number != second {
+        return Err(format!("stores: both answer {number}, then {second}"));
     }
     Ok(())
 }

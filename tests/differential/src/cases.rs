@@ -7,6 +7,7 @@ use crate::damage::{DAMAGES, Scene, Verdict};
 use crate::defects::DEFECTS;
 use crate::draw;
 use crate::history::History;
+use crate::kinds::Kind;
 use crate::model::Model;
 use crate::plan::Plan;
 use crate::rng::Rng;
@@ -72,12 +73,14 @@ fn history_on(
     image: Vec<u8>,
 ) -> Outcome<()> {
     let steps = (1_500_000 / image.len()).clamp(8, 160);
+    let tight = *rng.pick(&[0, 30, 50, 100]);
     let pair = Pair::new(plan.block(), image, tally);
     History {
         rng,
         plan,
         keys,
         records: model.records,
+        tight,
         pair,
     }
     .run(steps)
@@ -232,11 +235,12 @@ fn longest_image(rng: &mut Rng, tally: &mut Tally) -> Outcome<()> {
     let mut image = model.image(rng);
     let too_long = rng.percent(50);
     image.resize((1 << 24) + usize::from(too_long), 0xEE);
+    let kind = *rng.pick(&[Kind::OnTheSpot, Kind::Tight]);
     let mut pair = Pair::new(plan.block(), image, tally);
     let (number, _) = pair.check()?;
     let expected = if too_long { 4 } else { 0 };
     match number == expected {
-        true => pair.store(&[1], &[2]).map(|_| ()),
+        true => pair.store(kind, &[1], &[2]).map(|_| ()),
         false => Err(format!(
             "check of a long image: {number}, meant was {expected}"
         )),

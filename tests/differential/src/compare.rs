@@ -1,6 +1,9 @@
 //! One call to both implementations at a time, on two copies of an image,
 //! with every number and every byte compared afterwards.
 
+mod copies;
+
+use crate::kinds::Kind;
 use crate::subject;
 use crate::tally::{CALLS, Tally};
 
@@ -68,17 +71,21 @@ impl<'a> Pair<'a> {
         let ours = reference::entry(&self.block, &self.ours, n);
         let theirs = subject::entry(&self.block, self.their_image(), n);
         same(&format!("entry {n}"), ours, theirs)?;
-        self.settle(4, ours.0)?;
+        self.settle(5, ours.0)?;
         Ok(ours)
     }
 
-    pub fn store(&mut self, key: &[u8], value: &[u8]) -> Outcome<u32> {
+    pub fn store(&mut self, kind: Kind, key: &[u8], value: &[u8]) -> Outcome<u32> {
+        let (our_store, their_store) = kind.calls();
         self.remember();
-        let ours = reference::store(&self.block, &mut self.ours, key, value);
+        let ours = our_store(&self.block, &mut self.ours, key, value);
         let end = self.theirs.len() - GUARD;
-        let theirs = subject::store(&self.block, &mut self.theirs[GUARD..end], key, value);
-        let what = format!("store of {} bytes under {}", value.len(), short(key));
-        self.settle_edit(2, &what, ours, theirs)
+        let theirs = their_store(&self.block, &mut self.theirs[GUARD..end], key, value);
+        let call = match kind {
+            Kind::OnTheSpot => 2,
+            Kind::Tight => 3,
+        };
+        self.settle_edit(call, &told(kind, key, value), ours, theirs)
     }
 
     pub fn remove(&mut self, key: &[u8]) -> Outcome<u32> {
@@ -86,14 +93,14 @@ impl<'a> Pair<'a> {
         let ours = reference::remove(&self.block, &mut self.ours, key);
         let end = self.theirs.len() - GUARD;
         let theirs = subject::remove(&self.block, &mut self.theirs[GUARD..end], key);
-        self.settle_edit(3, &format!("removal of {}", short(key)), ours, theirs)
+        self.settle_edit(4, &format!("removal of {}", short(key)), ours, theirs)
     }
 
     pub fn delay(&mut self, a: u32, b: u32) -> Outcome<(u32, i32)> {
         let ours = reference::delay(&self.block, &self.ours, a, b);
         let theirs = subject::delay(&self.block, self.their_image(), a, b);
         same(&format!("delay of {a} {b}"), ours, theirs)?;
-        self.settle(5, ours.0)?;
+        self.settle(6, ours.0)?;
         Ok(ours)
     }
 
@@ -102,7 +109,7 @@ impl<'a> Pair<'a> {
         let ours = reference::set_delay(&self.block, &mut self.ours, a, b, delay);
         let end = self.theirs.len() - GUARD;
         let theirs = subject::set_delay(&self.block, &mut self.theirs[GUARD..end], a, b, delay);
-        self.settle_edit(6, &format!("set of {a} {b} to {delay}"), ours, theirs)
+        self.settle_edit(7, &format!("set of {a} {b} to {delay}"), ours, theirs)
     }
 
     /// Counts that something planned came up.
@@ -128,20 +135,7 @@ impl<'a> Pair<'a> {
     /// guards as they were.
     fn settle(&mut self, call: usize, number: u32) -> Outcome<()> {
         self.tally.note(call, number)?;
-        let theirs = self.their_image();
-        if self.ours != theirs {
-            let at = self
-                .ours
-                .iter()
-                .zip(theirs)
-                .position(|(a, b)| a != b)
-                .unwrap_or(0);
-            let (our, their) = (self.ours[at], theirs[at]);
-            let call = CALLS[call].0;
-            return Err(format!(
-                "{call}: byte {at} is {our} by reference, {their} by subject"
-            ));
-        }
+        same_bytes(CALLS[call].0, &self.ours, self.their_image())?;
         let (front, rest) = self.theirs.split_at(GUARD);
         let back = &rest[rest.len() - GUARD..];
         if front.iter().chain(back).any(|&byte| byte != GUARD_BYTE) {
@@ -167,6 +161,29 @@ fn same<T: PartialEq + std::fmt::Debug>(what: &str, ours: T, theirs: T) -> Outco
         ));
     }
     Ok(())
+}
+
+fn same_bytes(what: &str, ours: &[u8], theirs: &[u8]) -> Outcome<()> {
+    let Some(at) = difference(ours, theirs) else {
+        return Ok(());
+    };
+    let (our, their) = (ours[at], theirs[at]);
+    Err(format!(
+        "{what}: byte {at} is {our} by reference, {their} by subject"
+    ))
+}
+
+/// The first byte that differs in images of the same length.
+pub fn difference(one: &[u8], other: &[u8]) -> Option<usize> {
+    if one == other {
+        return None;
+    }
+    one.iter().zip(other).position(|(one, other)| one != other)
+}
+
+fn told(kind: Kind, key: &[u8], value: &[u8]) -> String {
+    let name = kind.name();
+    format!("{name} of {} bytes under {}", value.len(), short(key))
 }
 
 fn short(key: &[u8]) -> String {

@@ -168,6 +168,25 @@ pub fn offered_value(rng: &mut Rng, plan: &Plan, key: usize) -> Vec<u8> {
     rng.bytes(length)
 }
 
+/// Before and after the lengths that take a byte more.
+const JUMPS: [usize; 4] = [127, 128, 16_383, 16_384];
+
+/// A value that takes as many chunks as another under the same key.
+pub fn value_of_as_many(rng: &mut Rng, plan: &Plan, key: usize, other: usize) -> Vec<u8> {
+    let chunks = plan.chunks_of(key, other);
+    let longest = plan.longest_value(key, chunks).unwrap_or(other).min(65_535);
+    let fewer = plan.longest_value(key, chunks - 1);
+    let shortest = fewer.map_or(0, |fewer| fewer + 1);
+    let mut lengths = vec![shortest, longest, other];
+    lengths.extend(JUMPS);
+    lengths.retain(|length| (shortest..=longest).contains(length));
+    let length = match rng.percent(60) {
+        true => *rng.pick(&lengths),
+        false => rng.between(shortest, longest),
+    };
+    rng.bytes(length)
+}
+
 /// A value that fits under a key of some length, if any does.
 pub fn fitting_value(rng: &mut Rng, plan: &Plan, key: usize) -> Option<Vec<u8>> {
     plan.longest_value(key, plan.most_chunks)?;

@@ -1,14 +1,14 @@
 //! Histories of calls on an accepted image, held against a plain map.
 
 mod pairs;
+mod stores;
 
 use std::collections::BTreeMap;
 
 use crate::compare::{Outcome, Pair};
 use crate::draw;
-use crate::lengths;
-use crate::low_marks::Edit;
-use crate::oracle::Oracle;
+use crate::live::{self, Live};
+use crate::low_marks::{Deed, Edit};
 use crate::plan::{Plan, length_size};
 use crate::rng::Rng;
 use crate::search_ends::Search;
@@ -18,6 +18,8 @@ pub struct History<'a, 'b> {
     pub plan: &'a Plan,
     pub keys: &'a [Vec<u8>],
     pub records: BTreeMap<Vec<u8>, Vec<u8>>,
+    /// How many stores of a hundred are tight.
+    pub tight: usize,
     pub pair: Pair<'b>,
 }
 
@@ -98,62 +100,6 @@ impl History<'_, '_> {
         Ok(())
     }
 
-    fn store(&mut self) -> Outcome<()> {
-        let key = draw::offered_key(self.rng, self.plan, self.keys);
-        let value = match self.records.get(&key) {
-            Some(value) if self.rng.percent(5) => value.clone(),
-            _ => draw::offered_value(self.rng, self.plan, key.len()),
-        };
-        let refused = self.plan.offered_number(key.len(), Some(value.len()));
-        let place = if refused == 0 {
-            self.place_for(&key, &value)
-        } else {
-            None
-        };
-        let number = self.pair.store(&key, &value)?;
-        let full = if place.is_none() { 10 } else { 0 };
-        self.expect("store", number, if refused != 0 { refused } else { full })?;
-        if let Some(place) = place {
-            self.stands_at(&key, &value, place)?;
-            for length in lengths::brought(key.len(), value.len()) {
-                self.pair.met(length);
-            }
-            self.low_marks(&key, Some(place.0))?;
-            self.records.insert(key, value);
-        }
-        Ok(())
-    }
-
-    /// Tier and chunk that a store must choose.
-    fn place_for(&self, key: &[u8], value: &[u8]) -> Option<(usize, usize)> {
-        let chunks_with = |value: &[u8]| self.plan.chunks_of(key.len(), value.len());
-        let old_chunks = self.records.get(key).map_or(0, |old| chunks_with(old));
-        let oracle = Oracle {
-            plan: self.plan,
-            image: self.pair.image(),
-        };
-        oracle.place(key, chunks_with(value), old_chunks)
-    }
-
-    fn stands_at(&mut self, key: &[u8], value: &[u8], place: (usize, usize)) -> Outcome<()> {
-        let expected = self.plan.chunk(place.0, place.1) + head(key.len(), value.len());
-        let (_, [offset, _, tier, slot]) = self.pair.lookup(key)?;
-        if offset as usize != expected {
-            return Err(format!("store: record at {offset}, meant was {expected}"));
-        }
-        if self.records.contains_key(key) {
-            return Ok(());
-        }
-        let search = Search {
-            plan: self.plan,
-            image: self.pair.before(),
-            key,
-        };
-        let events = search.stored_at(tier as usize, slot as usize)?;
-        events.into_iter().for_each(|event| self.pair.met(event));
-        Ok(())
-    }
-
     fn remove(&mut self) -> Outcome<()> {
         let key = match self
             .records
@@ -176,19 +122,19 @@ impl History<'_, '_> {
             if refused != 0 { refused } else { absent },
         )?;
         if number == 0 {
-            self.low_marks(&key, None)?;
+            self.low_marks(&key, Deed::Removed)?;
         }
         Ok(())
     }
 
     /// What an edit made of the low marks.
-    fn low_marks(&mut self, key: &[u8], placed: Option<usize>) -> Outcome<()> {
+    fn low_marks(&mut self, key: &[u8], deed: Deed) -> Outcome<()> {
         let edit = Edit {
             plan: self.plan,
             before: self.pair.before(),
             after: self.pair.image(),
             segment: self.plan.parts(key).0,
-            placed,
+            deed,
         };
         for event in edit.marks()? {
             self.pair.met(event);
@@ -221,9 +167,15 @@ impl History<'_, '_> {
     }
 
     fn entry(&mut self, n: u64) -> Outcome<()> {
-        let (number, _) = self.pair.entry(n)?;
+        let (number, row) = self.pair.entry(n)?;
         let past = n >= self.records.len() as u64;
-        self.expect("entry", number, u32::from(past))
+        self.expect("entry", number, u32::from(past))?;
+        let entries = live::entries(self.plan, self.pair.image());
+        let expected = entries.get(n as usize).map_or([0; 7], Live::row);
+        if row != expected {
+            return Err(format!("entry {n}: {row:?}, meant was {expected:?}"));
+        }
+        Ok(())
     }
 
     fn all_records(&mut self) -> Outcome<()> {

@@ -8,13 +8,14 @@ use crate::render::get;
 use crate::rng::Rng;
 
 /// What edits must have come upon, each in a main and in an extra tier.
-const EVENTS: [&str; 6] = [
+const EVENTS: [&str; 7] = [
     "made exact by a removal",
     "made exact by a store",
-    "made exact by a replacement in its own chunks",
+    "made exact by a tight replacement in its own chunks",
     "made exact though the lowest clear chunk stayed",
     "made the number of chunks by a store",
     "left as it was by an edit in another tier of its chain",
+    "left as it was by a replacement on the spot in its tier",
 ];
 const KINDS: [&str; 2] = ["a main tier", "an extra tier"];
 
@@ -45,17 +46,25 @@ pub struct Edit<'a> {
     pub after: &'a [u8],
     /// The segment of its key.
     pub segment: usize,
+    pub deed: Deed,
+}
+
+#[derive(Clone, Copy, PartialEq)]
+pub enum Deed {
+    Removed,
     /// The tier that a store has put its entry in.
-    pub placed: Option<usize>,
+    Placed(usize),
+    /// The tier in which a record was replaced where it stood.
+    OnTheSpot(usize),
 }
 
 impl Edit<'_> {
     /// The exact number stands where chunks were taken or freed, the old one
-    /// in every other tier. Answers what came up.
+    /// in every other tier. On the spot none is. Answers what came up.
     pub fn marks(&self) -> Outcome<Vec<String>> {
         let mut met = Vec::new();
         for tier in 1..=self.plan.tiers() {
-            let touched = self.bits_changed(tier) || self.placed == Some(tier);
+            let touched = self.bits_changed(tier) || self.deed == Deed::Placed(tier);
             let expected = match touched {
                 true => self.lowest_clear(self.after, tier) as u64,
                 false => self.field(self.before, tier),
@@ -78,14 +87,16 @@ impl Edit<'_> {
             return Vec::new();
         }
         let exact_after = self.lowest_clear(self.after, tier);
-        let stores = self.placed.is_some();
+        let stores = matches!(self.deed, Deed::Placed(_));
+        let stays = matches!(self.deed, Deed::OnTheSpot(_));
         let came = [
-            touched && !stores,
+            touched && self.deed == Deed::Removed,
             touched && stores,
             touched && !self.bits_changed(tier),
             touched && exact_after == exact,
             touched && stores && exact_after == self.plan.chunks,
-            !touched,
+            !touched && !stays,
+            self.deed == Deed::OnTheSpot(tier),
         ];
         let kind = KINDS[usize::from(!self.plan.is_main(tier))];
         let events = EVENTS.into_iter().zip(came).filter(|(_, came)| *came);

@@ -31,10 +31,45 @@ impl Oracle<'_> {
                 return Some((tier, first_chunk));
             }
         }
-        match get(self.image, self.plan.global_state + 11, 5) {
+        match self.first_free() {
             0 => None,
-            free => Some((free as usize, 0)),
+            free => Some((free, 0)),
         }
+    }
+
+    pub fn first_free(&self) -> usize {
+        get(self.image, self.plan.global_state + 11, 5) as usize
+    }
+
+    /// No tier is free, and no chunk of a chained one is clear.
+    pub fn is_full(&self) -> bool {
+        let mut tiers = (0..self.plan.segments).flat_map(|segment| self.chain(segment));
+        self.first_free() == 0
+            && tiers.all(|tier| (0..self.plan.chunks).all(|chunk| self.mark(tier, chunk)))
+    }
+
+    /// The longest run of clear chunks that a new key of a segment can have
+    /// in its chain.
+    pub fn longest_run(&self, segment: usize) -> usize {
+        let mut tiers = self.chain(segment);
+        tiers.retain(|&tier| self.full_slots(tier) + 2 <= self.plan.slots);
+        let runs = tiers.into_iter().map(|tier| self.longest_run_in(tier));
+        runs.max().unwrap_or(0)
+    }
+
+    fn full_slots(&self, tier: usize) -> usize {
+        let slots = 0..self.plan.slots;
+        let number = |slot| get(self.image, self.plan.slot(tier, slot), self.plan.slot_size);
+        slots.filter(|&slot| number(slot) != 0).count()
+    }
+
+    fn longest_run_in(&self, tier: usize) -> usize {
+        let (mut run, mut longest) = (0, 0);
+        for chunk in 0..self.plan.chunks {
+            run = if self.mark(tier, chunk) { 0 } else { run + 1 };
+            longest = longest.max(run);
+        }
+        longest
     }
 
     fn room(&self, tier: usize, key: &[u8], chunks: usize, old_chunks: usize) -> Option<usize> {
@@ -58,7 +93,7 @@ impl Oracle<'_> {
         marks.windows(chunks).position(|run| !run.contains(&true))
     }
 
-    fn mark(&self, tier: usize, chunk: usize) -> bool {
+    pub fn mark(&self, tier: usize, chunk: usize) -> bool {
         self.image[self.plan.list(tier) + chunk / 8] & (1 << (chunk % 8)) != 0
     }
 

@@ -5,6 +5,7 @@ use crate::compare::Outcome;
 use crate::oracle::Oracle;
 use crate::plan::Plan;
 use crate::render::get;
+use crate::tally::came;
 
 const FOUND: [&str; 5] = [
     "in a main tier",
@@ -47,15 +48,6 @@ pub fn planned() -> Vec<String> {
         .chain(ABSENT.map(absent))
         .chain(STORED.map(stored))
         .collect()
-}
-
-fn came<const N: usize>(
-    events: [&str; N],
-    came: [bool; N],
-    name: fn(&str) -> String,
-) -> Vec<String> {
-    let events = events.into_iter().zip(came).filter(|(_, came)| *came);
-    events.map(|(event, _)| name(event)).collect()
 }
 
 /// A key on an accepted image.

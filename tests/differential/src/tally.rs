@@ -8,13 +8,15 @@ use crate::damage::DAMAGES;
 use crate::defects::DEFECTS;
 use crate::lengths;
 use crate::low_marks;
+use crate::on_the_spot;
 use crate::search_ends;
 
 /// The calls, and the numbers that each may answer.
-pub const CALLS: [(&str, &[u32]); 7] = [
+pub const CALLS: [(&str, &[u32]); 8] = [
     ("check", &[0, 2, 3, 4, 5, 6, 7]),
     ("lookup", &[0, 1, 2, 3, 4, 5, 6, 7, 8]),
     ("store", &[0, 2, 3, 4, 5, 6, 7, 8, 9, 10]),
+    ("store_tight", &[0, 2, 3, 4, 5, 6, 7, 8, 9, 10]),
     ("remove", &[0, 1, 2, 3, 4, 5, 6, 7, 8]),
     ("entry", &[0, 1, 2, 3, 4, 5, 6, 7]),
     ("delay", &[0, 1, 2, 3, 4, 5, 6, 7, 11, 12]),
@@ -29,8 +31,8 @@ pub struct Tally {
     pub hashes: u64,
     /// How often each planned fault was made.
     pub faults: BTreeMap<&'static str, u64>,
-    /// How often what is planned for lengths, low marks, searches and the
-    /// pair calls came up.
+    /// How often what is planned for lengths, low marks, searches, the kinds
+    /// of store and the pair calls came up.
     pub met: BTreeMap<String, u64>,
 }
 
@@ -59,6 +61,7 @@ impl Tally {
         let planned = planned
             .chain(lengths::planned())
             .chain(low_marks::planned())
+            .chain(on_the_spot::planned())
             .chain(search_ends::planned());
         let planned = planned.filter(|name| !self.met.contains_key(name));
         numbers
@@ -70,14 +73,14 @@ impl Tally {
     pub fn print(&self) {
         let titles: String = CALLS
             .iter()
-            .map(|(call, _)| format!("{call:>10}"))
+            .map(|(call, _)| format!("{call:>12}"))
             .collect();
         println!("number{titles}");
         for number in 0..NUMBERS {
             let line: String = self
                 .counts
                 .iter()
-                .map(|counts| format!("{:>10}", counts[number]))
+                .map(|counts| format!("{:>12}", counts[number]))
                 .collect();
             println!("{number:>6}{line}");
         }
@@ -89,4 +92,14 @@ impl Tally {
             println!("{count:>6} times {what}");
         }
     }
+}
+
+/// Those of the planned events that came up, by their names.
+pub fn came<const N: usize>(
+    events: [&str; N],
+    came: [bool; N],
+    name: fn(&str) -> String,
+) -> Vec<String> {
+    let events = events.into_iter().zip(came).filter(|(_, came)| *came);
+    events.map(|(event, _)| name(event)).collect()
 }

@@ -9,7 +9,16 @@ use crate::slot::HashParts;
 use crate::tier::Tier;
 use crate::{Answer, number};
 
-/// An entry to be removed, free of the image that it was found in.
+/// What a store does with an old entry that takes as many chunks as the new.
+#[derive(Clone, Copy, Debug, PartialEq, Eq)]
+pub enum Kind {
+    /// It writes over the old entry's bytes.
+    OnTheSpot,
+    /// It takes the old entry out first, as one of any other size.
+    Tight,
+}
+
+/// An entry to be replaced or removed, free of the image it was found in.
 #[derive(Clone, Copy)]
 struct Old {
     tier: Tier,
@@ -45,13 +54,18 @@ pub fn remove(block: &[u8], image: &mut [u8], key: &[u8]) -> Answer<()> {
     Ok(())
 }
 
-pub fn store(block: &[u8], image: &mut [u8], key: &[u8], value: &[u8]) -> Answer<()> {
+pub fn store(kind: Kind, block: &[u8], image: &mut [u8], key: &[u8], value: &[u8]) -> Answer<()> {
     let map = accept(block, image)?;
     check_key(key)?;
     let settings = &map.frame.settings;
     let needed = settings.chunks_needed(key, value)?;
     let parts = settings.hash_parts(key);
     let old = map.find(image, parts, key).ok().map(Old::from);
+    // Slot, marks and counters of as many chunks are right as they are.
+    if let Some(old) = old.filter(|old| kind == Kind::OnTheSpot && old.chunks == needed) {
+        map.write_at(image, &old.tier, old.first_chunk, key, value);
+        return Ok(());
+    }
     let room = map
         .room(image, parts.segment, needed, old)
         .ok_or(number::FULL)?;
@@ -65,8 +79,7 @@ pub fn store(block: &[u8], image: &mut [u8], key: &[u8], value: &[u8]) -> Answer
             (tier, 0)
         }
     };
-    let start = tier.space + first_chunk * settings.chunk_size;
-    write_entry(&mut image[start..], key, value);
+    map.write_at(image, &tier, first_chunk, key, value);
     map.put_in(image, &tier, parts, key, first_chunk, needed);
     Ok(())
 }
@@ -138,6 +151,12 @@ impl Accepted {
         tier.set_next(image, 0);
         tier.set_standing(image, last.index, segment, chain.len());
         tier.set_entry_count(image, 0);
+    }
+
+    /// Writes an entry from a chunk on, and nothing after its end.
+    fn write_at(&self, image: &mut [u8], tier: &Tier, first: usize, key: &[u8], value: &[u8]) {
+        let start = tier.space + first * self.frame.settings.chunk_size;
+        write_entry(&mut image[start..], key, value);
     }
 
     /// Fills the empty slot that ends the search for the key, and marks the

@@ -1,6 +1,6 @@
 //! An independent implementation of the lent map image: check, lookup,
-//! store, remove, list and delays by pair, over a settings block and an
-//! image of any bytes.
+//! store (on the spot or tight), remove, list and delays by pair, over a
+//! settings block and an image of any bytes.
 //!
 //! Every call settles the whole image first (see [`check`]) and works on it
 //! afterwards without a further doubt: what the check has passed is indexed
@@ -25,6 +25,8 @@ mod tier;
 
 #[cfg(test)]
 mod tests;
+
+use edit::Kind;
 
 /// The numbers that an answer can carry besides 0.
 mod number {
@@ -57,9 +59,18 @@ pub fn lookup(block: &[u8], image: &[u8], key: &[u8]) -> (u32, [u64; 4]) {
     search::lookup(block, image, key).unwrap_or_else(|number| (number, [0; 4]))
 }
 
-/// Puts `value` under `key`, in place of an earlier record.
+/// Puts `value` under `key`. An earlier entry that takes as many chunks is
+/// written over on the spot.
 pub fn store(block: &[u8], image: &mut [u8], key: &[u8], value: &[u8]) -> u32 {
-    edit::store(block, image, key, value).err().unwrap_or(0)
+    let stored = edit::store(Kind::OnTheSpot, block, image, key, value);
+    stored.err().unwrap_or(0)
+}
+
+/// Puts `value` under `key`. An earlier entry is taken out first whatever
+/// its size, so that the new one goes to the lowest run.
+pub fn store_tight(block: &[u8], image: &mut [u8], key: &[u8], value: &[u8]) -> u32 {
+    let stored = edit::store(Kind::Tight, block, image, key, value);
+    stored.err().unwrap_or(0)
 }
 
 /// Drops the entry of `key`.

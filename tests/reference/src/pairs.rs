@@ -5,6 +5,7 @@
 use std::ops::RangeInclusive;
 
 use crate::check::accept;
+use crate::edit::Kind;
 use crate::{Answer, edit, number, search};
 
 const CHANNELS: RangeInclusive<u32> = 1..=32;
@@ -57,5 +58,6 @@ pub fn set(block: &[u8], image: &mut [u8], a: u32, b: u32, delay: i32) -> Answer
     accept(block, image)?;
     let pair = Pair::of(a, b)?;
     let delay = check_delay(delay)?;
-    edit::store(block, image, &pair.key, &pair.turn(delay).to_le_bytes())
+    let record = pair.turn(delay).to_le_bytes();
+    edit::store(Kind::OnTheSpot, block, image, &pair.key, &record)
 }

@@ -2,8 +2,10 @@
 
 mod hash_vectors;
 mod low_mark;
+mod on_the_spot;
 mod pairs;
 mod search_end;
+mod store_kinds;
 mod worked_store;
 
 use crate::leb128;

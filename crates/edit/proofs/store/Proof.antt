@@ -1,140 +1,80 @@
-use Rattle.placement.proofs.Written.{segment-made}
-use Rattle.edit.proofs.Replacing.{sound-framed}
-use Rattle.edit.proofs.Storage.{walk-asks, scanned, no-room, run-replaces, run-stored, free-extends, free-stored}
+use native.Mathlib.Omega.{arith}
 use borrow.Author.Needs.{needs}
+use borrow.Author.Tests.{not-true, not-false}
+use Rattle.edit.proofs.Storage.{walk-asks}
+use Rattle.edit.proofs.Choosing.{walks, spot-writes, spot-stored, tight-stored}
 use Rattle.edit.proofs.store.Statement.{statement}
 use Rattle.edit.proofs.store.Tie as tie
-use native.Mathlib.Omega.{arith}
 
 chunks-for-requires : tie.Need-chunks-for-requires
 chunks-for-requires c κs = search needs
 
-place-for-requires : tie.Need-place-for-requires
-place-for-requires c κs =
+walk-chain-requires : tie.Need-walk-chain-requires
+walk-chain-requires c κs =
     let p = c .before in let chunks-for = p .chunks-for in
     let start = p .before .before .before .before in
     walk-asks (start .pre) (chunks-for .ensures)
 
-enum-known-scan : tie.Need-enum-known-scan
-enum-known-scan c = search needs
+on-the-spot-requires : tie.Need-on-the-spot-requires
+on-the-spot-requires c κs = search needs
 
-enum-told : tie.Need-enum-told
-enum-told c = search needs
-
-first-free-requires : tie.Need-first-free-requires
-first-free-requires c κs =
-    let start = c .before .before .before .before .before .before .before .before .before .before in
-    sound-framed (start .args .z) (start .args .img .now) (start .pre .sound)
+store-tight-requires : tie.Need-store-tight-requires
+store-tight-requires c κs =
+    let p = c .before .before .before .before in let walk-chain = p .walk-chain in
+    let p = p .before .before in let chunks-for = p .chunks-for in
+    let start = p .before .before .before .before in
+    walks (start .pre) (chunks-for .ensures) (walk-chain .ensures)
 
 same-length : tie.Need-same-length
 same-length c = search needs
 
 returns : tie.Need-returns
 returns c =
-    let p = c .before in let first-free = p .first-free in
-    let p = p .before .before in let told = p .enum-told in
-    let p = p .before .before .before in let place-for = p .place-for in
+    let p = c .before .before in let store-tight = p .store-tight in
+    let p = p .before .before in let if1 = p .if1 in
+    let p = p .before in let on-the-spot = p .on-the-spot in
+    let p = p .before .before in let walk-chain = p .walk-chain in
     let p = p .before .before in let chunks-for = p .chunks-for in
-    let value-known = p .before .shared-slice-known2 in
-    let key-known = p .before .before .shared-slice-known in
     let start = p .before .before .before .before in
-    let w =
-    scanned (start .pre) (λ i. omega (arith, key-known .given i)) (λ i. omega (arith, value-known .given i)) (chunks-for .ensures)
-    (place-for .ensures) in
-    no-room w (first-free .result) (told .given .1) (first-free .ensures) (c .if1 .taken)
+    tight-stored (walks (start .pre) (chunks-for .ensures) (walk-chain .ensures)) (start .args .policy) (on-the-spot .ensures) (not-true _ (if1 .taken))
+    (store-tight .result) _ (store-tight .ensures)
 
-xxh64-requires : tie.Need-xxh64-requires
-xxh64-requires c κs = search needs
-
-segment-of-hash-requires : tie.Need-segment-of-hash-requires
-segment-of-hash-requires c κs = search needs
-
-extend-requires : tie.Need-extend-requires
-extend-requires c κs =
-    let p = c .before in let segment-of-hash = p .segment-of-hash in
-    let p = p .before in let xxh64 = p .xxh64 in
-    let p = p .before in let if1 = p .if1 in
-    let p = p .before in let first-free = p .first-free in
-    let p = p .before .before in let told = p .enum-told in
-    let p = p .before .before .before in let place-for = p .place-for in
+write-from-requires : tie.Need-write-from-requires
+write-from-requires c κs =
+    let p = c .before in let if1 = p .if1 in
+    let p = p .before in let on-the-spot = p .on-the-spot in
+    let p = p .before .before in let walk-chain = p .walk-chain in
     let p = p .before .before in let chunks-for = p .chunks-for in
-    let value-known = p .before .shared-slice-known2 in
-    let key-known = p .before .before .shared-slice-known in
-    let start = p .before .before .before .before in
-    let w =
-    scanned (start .pre) (λ i. omega (arith, key-known .given i)) (λ i. omega (arith, value-known .given i)) (chunks-for .ensures)
-    (place-for .ensures) in
-    free-extends w (first-free .result) (segment-of-hash .result) (told .given .1) (first-free .ensures) (if1 .left)
-    (segment-made (start .args .z .settings) (start .args .key .now) (xxh64 .ensures) (segment-of-hash .ensures .0))
+    let p = p .before in let value-known = p .shared-slice-known2 in
+    let p = p .before in let key-known = p .shared-slice-known in
+    let start = p .before .before in
+    spot-writes (walks (start .pre) (chunks-for .ensures) (walk-chain .ensures)) (start .args .policy) (on-the-spot .ensures) (not-false _ (if1 .left))
+    (λ i. omega (arith, key-known .given i)) (λ i. omega (arith, value-known .given i))
 
 same-length-2 : tie.Need-same-length-2
 same-length-2 c = search needs
 
 returns-2 : tie.Need-returns-2
 returns-2 c =
-    let p = c .before .before in let extend = p .extend in
-    let p = p .before .before in let segment-of-hash = p .segment-of-hash in
-    let p = p .before in let xxh64 = p .xxh64 in
-    let p = p .before in let if1 = p .if1 in
-    let p = p .before in let first-free = p .first-free in
-    let p = p .before .before in let told = p .enum-told in
-    let p = p .before .before .before in let place-for = p .place-for in
+    let p = c .before .before in let write-from = p .write-from in
+    let p = p .before .before in let if1 = p .if1 in
+    let p = p .before in let on-the-spot = p .on-the-spot in
+    let p = p .before .before in let walk-chain = p .walk-chain in
     let p = p .before .before in let chunks-for = p .chunks-for in
-    let value-known = p .before .shared-slice-known2 in
-    let key-known = p .before .before .shared-slice-known in
     let start = p .before .before .before .before in
-    let w =
-    scanned (start .pre) (λ i. omega (arith, key-known .given i)) (λ i. omega (arith, value-known .given i)) (chunks-for .ensures)
-    (place-for .ensures) in
-    free-stored w (first-free .result) (segment-of-hash .result) (told .given .1) (first-free .ensures) (if1 .left)
-    (segment-made (start .args .z .settings) (start .args .key .now) (xxh64 .ensures) (segment-of-hash .ensures .0)) (extend .ensures)
-
-replace-requires : tie.Need-replace-requires
-replace-requires c κs =
-    let p = c .before .before in let scan = p .scan in
-    let p = p .before .before .before in let place-for = p .place-for in
-    let p = p .before .before in let chunks-for = p .chunks-for in
-    let value-known = p .before .shared-slice-known2 in
-    let key-known = p .before .before .shared-slice-known in
-    let start = p .before .before .before .before in
-    let w =
-    scanned (start .pre) (λ i. omega (arith, key-known .given i)) (λ i. omega (arith, value-known .given i)) (chunks-for .ensures)
-    (place-for .ensures) in
-    run-replaces w (scan .given .0 .0) (scan .given .0 .1 .0) (scan .given .1)
-
-same-length-3 : tie.Need-same-length-3
-same-length-3 c = search needs
-
-returns-3 : tie.Need-returns-3
-returns-3 c =
-    let p = c .before .before in let replace = p .replace in
-    let p = p .before .before .before in let scan = p .scan in
-    let p = p .before .before .before in let place-for = p .place-for in
-    let p = p .before .before in let chunks-for = p .chunks-for in
-    let value-known = p .before .shared-slice-known2 in
-    let key-known = p .before .before .shared-slice-known in
-    let start = p .before .before .before .before in
-    let w =
-    scanned (start .pre) (λ i. omega (arith, key-known .given i)) (λ i. omega (arith, value-known .given i)) (chunks-for .ensures)
-    (place-for .ensures) in
-    run-stored w (scan .given .0 .0) (scan .given .0 .1 .0) (scan .given .1) (replace .ensures)
+    spot-stored (walks (start .pre) (chunks-for .ensures) (walk-chain .ensures)) (start .args .policy) (on-the-spot .ensures) (not-false _ (if1 .left))
+    (write-from .ensures)
 
 pub store-spec : {M : Type 1} → statement M
 store-spec =
     tie.close
     (tie.spec
     chunks-for-requires
-    place-for-requires
-    enum-known-scan
-    enum-told
-    first-free-requires
+    walk-chain-requires
+    on-the-spot-requires
+    store-tight-requires
     same-length
     returns
-    xxh64-requires
-    segment-of-hash-requires
-    extend-requires
+    write-from-requires
     same-length-2
-    returns-2
-    replace-requires
-    same-length-3
-    returns-3)
+    returns-2)

@@ -4,6 +4,8 @@
 use super::History;
 use crate::channels;
 use crate::compare::Outcome;
+use crate::kinds::Kind;
+use crate::on_the_spot;
 
 impl History<'_, '_> {
     pub fn has_pairs(&self) -> bool {
@@ -66,7 +68,7 @@ impl History<'_, '_> {
         let delay = channels::offered_delay(self.rng);
         let (key, record) = (channels::key(a, b), channels::kept(a, b, delay));
         let mut numbers = channels::refusals(a, b, delay);
-        let place = self.place_for(&key, &record);
+        let place = self.place_for(Kind::OnTheSpot, &key, &record);
         match self.plan.offered_number(key.len(), Some(record.len())) {
             0 if place.is_none() => numbers.push(10),
             0 => {}
@@ -78,10 +80,25 @@ impl History<'_, '_> {
         for &later in numbers.iter().skip(1) {
             self.pair.met(channels::before(first, later));
         }
+        self.not_full(&key, &record, number)?;
         if let (0, Some(place)) = (number, place) {
-            self.stands_at(&key, &record, place)?;
-            self.low_marks(&key, Some(place.0))?;
-            self.records.insert(key, record);
+            self.is_a_store(&key, &record)?;
+            self.stored(Kind::OnTheSpot, key, record, place)?;
+        }
+        Ok(())
+    }
+
+    /// A set has left what the default store of its record leaves.
+    fn is_a_store(&mut self, key: &[u8], record: &[u8]) -> Outcome<()> {
+        let before = self.pair.before();
+        let (number, image) = self.pair.store_on(before, Kind::OnTheSpot, key, record)?;
+        if number != 0 || image != self.pair.image() {
+            return Err(format!(
+                "set: a store answers {number} or leaves other bytes"
+            ));
+        }
+        if self.is_as_many(key, record) {
+            self.pair.met(on_the_spot::set_on_the_spot());
         }
         Ok(())
     }

@@ -2,9 +2,10 @@
 //! tiers exact in which it takes or frees chunks, and no others.
 
 use super::worked_store::{
-    FIELDS, after_p2, after_p4, after_p5, after_p6, block, block_of, store_x, stores, with,
+    BOTH_KINDS, FIELDS, after_p2, after_p4, after_p5, after_p6, block, block_of, store_x, stores,
+    stores_by, with,
 };
-use crate::{check, remove, store};
+use crate::{check, remove, store, store_tight};
 
 /// The low mark of tier 1, in the segment header, and that of tier 2.
 const MARK: usize = 76;
@@ -159,20 +160,23 @@ fn a_store_that_fills_a_lagging_tier_writes_n() {
 /// The old entry leaves tier 2 for tier 1: both take or free chunks.
 #[test]
 fn a_replacement_across_tiers_writes_both_marks() {
-    let mut image = after_p6();
-    assert_eq!(remove(&block(), &mut image, &[2, 1]), 0);
-    (image[MARK], image[MARK_2]) = (0, 0);
-    assert_eq!(store(&block(), &mut image, &[5, 1], &[0; 5]), 0);
-    assert_eq!((image[224], image[424]), (29, 3));
-    assert_eq!((image[MARK], image[MARK_2]), (1, 2));
+    for kind in BOTH_KINDS {
+        let mut image = after_p6();
+        assert_eq!(remove(&block(), &mut image, &[2, 1]), 0);
+        (image[MARK], image[MARK_2]) = (0, 0);
+        assert_eq!(kind(&block(), &mut image, &[5, 1], &[0; 5]), 0);
+        assert_eq!((image[224], image[424]), (29, 3));
+        assert_eq!((image[MARK], image[MARK_2]), (1, 2));
+    }
 }
 
 /// The very chunk that it frees is taken again.
 #[test]
-fn a_replacement_in_its_own_chunks_writes_the_exact_mark() {
+fn a_tight_replacement_in_its_own_chunks_writes_the_exact_mark() {
     let value = [0x20, 0, 0, 0];
     let before = marked_from(&after_p2(), MARK, 0);
-    stores(
+    stores_by(
+        store_tight,
         before,
         [1, 2],
         &value,
@@ -181,13 +185,14 @@ fn a_replacement_in_its_own_chunks_writes_the_exact_mark() {
     );
 }
 
-/// The old chunks lie below the mark.
+/// The old chunks lie below the mark. As many chunks are moved by the tight
+/// store only, fewer by both kinds.
 #[test]
 fn a_replacement_is_not_placed_from_the_mark_on() {
     let value = [0x20, 0, 0, 0];
     let slots = [3, 0, 0, 0, 5, 0, 0, 0, 1, 0, 0, 0];
     let after = with(after_p4(), &[(100, &slots), (236, &value)]);
-    stores(after_p4(), [1, 2], &value, 0, after);
+    stores_by(store_tight, after_p4(), [1, 2], &value, 0, after);
 
     let mut image = store_x();
     assert_eq!(store(&block(), &mut image, &[1, 2], &[7; 5]), 0);

@@ -123,7 +123,7 @@ fn slots_of_eight_bytes() {
 }
 
 /// X with three bulks, and the order of its free chain.
-fn three_bulks(free: [u8; 3]) -> Vec<u8> {
+pub fn three_bulks(free: [u8; 3]) -> Vec<u8> {
     let mut image = store_x();
     image.resize(896, 0);
     let next_at = |tier: u8| 360 + 200 * (tier as usize - 2);
@@ -210,14 +210,14 @@ fn the_chain_is_that_of_the_keys_segment() {
 
 /// X with eight slots to a tier and eight key bits: searches start in any
 /// slot.
-fn wide_block() -> Vec<u8> {
+pub fn wide_block() -> Vec<u8> {
     let mut fields = FIELDS;
     (fields[4], fields[5]) = (8, 8);
     block_of(fields)
 }
 
 /// The `n`-th key, two bytes long, whose search starts in this slot.
-fn key_from(start: u64, n: usize) -> [u8; 2] {
+pub fn key_from(start: u64, n: usize) -> [u8; 2] {
     let starts = |key: &[u8; 2]| match xxh64(key) % 256 {
         0 => 7,
         part => part % 8,
@@ -229,7 +229,7 @@ fn key_from(start: u64, n: usize) -> [u8; 2] {
 
 /// A store with these keys in tier 1, stored in this order.
 #[track_caller]
-fn wide_store(keys: &[[u8; 2]]) -> Vec<u8> {
+pub fn wide_store(keys: &[[u8; 2]]) -> Vec<u8> {
     let mut image = store_x();
     put(&wide_block(), &mut image, keys);
     image

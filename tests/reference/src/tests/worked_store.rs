@@ -1,6 +1,6 @@
 //! The ten worked cases, each compared over every byte of the image.
 
-use crate::{check, entry, lookup, remove, store};
+use crate::{check, entry, lookup, remove, store, store_tight};
 
 pub const FIELDS: [u32; 17] = [0, 1, 32, 4, 4, 1, 4, 64, 8, 0, 8, 8, 200, 0, 1, 200, 4];
 const VALUE_1: [u8; 4] = [0x10, 0, 0, 0];
@@ -91,10 +91,29 @@ pub fn after_p6() -> Vec<u8> {
     with(after_p5(), &changes)
 }
 
+pub type Store = fn(&[u8], &mut [u8], &[u8], &[u8]) -> u32;
+
+pub const BOTH_KINDS: [Store; 2] = [store, store_tight];
+
+/// A store that both kinds do alike.
 #[track_caller]
 pub fn stores(before: Vec<u8>, key: [u8; 2], value: &[u8], number: u32, after: Vec<u8>) {
+    for kind in BOTH_KINDS {
+        stores_by(kind, before.clone(), key, value, number, after.clone());
+    }
+}
+
+#[track_caller]
+pub fn stores_by(
+    kind: Store,
+    before: Vec<u8>,
+    key: [u8; 2],
+    value: &[u8],
+    number: u32,
+    after: Vec<u8>,
+) {
     let mut image = before;
-    assert_eq!(store(&block(), &mut image, &key, value), number);
+    assert_eq!(kind(&block(), &mut image, &key, value), number);
     assert_eq!(image, after);
 }
 
@@ -130,11 +149,13 @@ fn p5_takes_the_free_tier() {
 
 #[test]
 fn p6_until_full() {
-    let mut image = after_p5();
-    assert_eq!(store(&block(), &mut image, &[4, 1], &[7; 4]), 0);
-    assert_eq!(store(&block(), &mut image, &[5, 1], &[6; 4]), 0);
-    assert_eq!(image, after_p6());
-    stores(image, [6, 1], &[5; 4], 10, after_p6());
+    for kind in BOTH_KINDS {
+        let mut image = after_p5();
+        assert_eq!(kind(&block(), &mut image, &[4, 1], &[7; 4]), 0);
+        assert_eq!(kind(&block(), &mut image, &[5, 1], &[6; 4]), 0);
+        assert_eq!(image, after_p6());
+    }
+    stores(after_p6(), [6, 1], &[5; 4], 10, after_p6());
 }
 
 #[test]

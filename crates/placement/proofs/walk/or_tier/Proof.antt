@@ -1,7 +1,7 @@
 use mathlib.Core.Path.{sym, subst}
 use Rattle.placement.specs.declared.Old.{Old}
 use Rattle.placement.specs.Asking.{CanScan}
-use Rattle.placement.proofs.Walking.{spot-stays, spot-tier}
+use Rattle.placement.proofs.Walking.{candidate-kept, candidate-tier}
 use borrow.Author.Needs.{needs}
 use Rattle.placement.proofs.walk.or_tier.Statement.{statement}
 use Rattle.placement.proofs.walk.or_tier.Tie as tie
@@ -16,7 +16,7 @@ returns : tie.Need-returns
 returns c =
     let told = c .enum-told2 in
     let start = c .before .before .before in
-    spot-stays (start .args .z) (start .args .img .now) (start .args .n) (start .args .t) (start .args .j) (start .args .spot)
+    candidate-kept (start .args .z) (start .args .img .now) (start .args .n) (start .args .t) (start .args .j) (start .args .candidate)
     (told .given .0 .0) (told .given .0 .1 .0) (told .given .1)
 
 none-requires : tie.Need-none-requires
@@ -32,7 +32,7 @@ returns-2 c =
     let p = c .before in let none = p .none in
     let p = p .before in let told = p .enum-told in
     let start = p .before .before .before in
-    spot-tier (start .args .z) (start .args .img .now) (start .args .n) (start .args .t) (start .args .j) (start .args .spot)
+    candidate-tier (start .args .z) (start .args .img .now) (start .args .n) (start .args .t) (start .args .j) (start .args .candidate)
     (start .pre .tier .tierIn) (told .given .1) (none .ensures) (c .run-in .ensures)
 
 pub or-tier-spec : {M : Type 1} → statement M

@@ -9,10 +9,10 @@ use Rattle.placement.proofs.walk.walk_chain.Statement.{statement}
 use Rattle.placement.proofs.walk.walk_chain.Tie as tie
 
 abbrev Inv-loop : tie.InvT-loop
-Inv-loop z img key n h lookup most t₀ spot₀ k₀ t spot k = Walking z img key n most t spot k
+Inv-loop z img key n h lookup most t₀ candidate₀ k₀ t candidate k = Walking z img key n most t candidate k
 
 abbrev μ-loop : tie.MeasureT-loop
-μ-loop z img key n h lookup most t₀ spot₀ k₀ t spot k = most - k
+μ-loop z img key n h lookup most t₀ candidate₀ k₀ t candidate k = most - k
 
 xxh64-requires : tie.Need-xxh64-requires Inv-loop μ-loop
 xxh64-requires c κs = search needs

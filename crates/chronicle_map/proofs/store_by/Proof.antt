@@ -2,8 +2,8 @@ use native.Mathlib.Omega.{arith}
 use Rattle.chronicle_map.proofs.Asking.{entry-storable}
 use Rattle.chronicle_map.proofs.Calling.{store-refused, store-ready}
 use borrow.Author.Needs.{needs}
-use Rattle.chronicle_map.proofs.store.Statement.{statement}
-use Rattle.chronicle_map.proofs.store.Tie as tie
+use Rattle.chronicle_map.proofs.store_by.Statement.{statement}
+use Rattle.chronicle_map.proofs.store_by.Tie as tie
 
 asked-entry-requires : tie.Need-asked-entry-requires
 asked-entry-requires c κs = search needs
@@ -31,8 +31,8 @@ returns c =
     let p = c .before in let stage = p .stage in
     let p = p .before .before in let asked-entry = p .asked-entry in
     let start = p .before .before .before .before .before .before in
-    store-refused (start .args .block .now) (start .args .img .now) (start .args .key .now) (start .args .value .now) (asked-entry .ensures)
-    (stage .given .0 .0) (stage .given .1)
+    store-refused (start .args .policy) (start .args .block .now) (start .args .img .now) (start .args .key .now) (start .args .value .now)
+    (asked-entry .ensures) (stage .given .0 .0) (stage .given .1)
 
 same-length-2 : tie.Need-same-length-2
 same-length-2 c = search needs
@@ -42,11 +42,11 @@ returns-2 c =
     let p = c .before .before .before .before .before in let z = p .z in
     let p = p .before .before in let asked-entry = p .asked-entry in
     let start = p .before .before .before .before .before .before in
-    store-ready (start .args .block .now) (start .args .img .now) (start .args .key .now) (start .args .value .now) (asked-entry .ensures)
+    store-ready (start .args .policy) (start .args .block .now) (start .args .img .now) (start .args .key .now) (start .args .value .now) (asked-entry .ensures)
     (z .given .0 .0) (z .given .0 .1 .0) (z .given .1) (c .before .before .store-accepted .ensures)
 
-pub store-spec : {M : Type 1} → statement M
-store-spec =
+pub store-by-spec : {M : Type 1} → statement M
+store-by-spec =
     tie.close
     (tie.spec
     asked-entry-requires

@@ -1,0 +1,79 @@
+-- The row of 10 never holds for a replacement that takes as many chunks as the old entry, or fewer: its own tier takes it.
+use Prim.Native.Nat.{ℕ, _≤_}
+use mathlib.Core.List.{List, List·Memᴰ}
+use mathlib.Core.Path.{_≡_, refl, ap, sym, _∙_, subst}
+use mathlib.Core.Logic.{_≢_}
+use mathlib.Core.Bool.{false}
+use mathlib.Core.Option.{some}
+use native.Mathlib.Omega.{arith}
+use lib.ListN.{length}
+use borrow.Author.Tests.{eq-eqb}
+use Rattle.layout.specs.declared.Shape.{Shape}
+use Rattle.chains.specs.Chains.{chain}
+use Rattle.entries.specs.declared.Live.{Live}
+use Rattle.entries.specs.Keys.{segmentOf}
+use Rattle.entries.specs.Stored.{chunksFor}
+use Rattle.entries.specs.Live.{live}
+use Rattle.entries.proofs.LiveLists.{IsLive, live-in}
+use Rattle.chunks.specs.Chunks.{clear}
+use Rattle.sound.specs.Sound.{SoundImage}
+use Rattle.sound.proofs.Sound.{sound-but}
+use Rattle.removal.specs.Removal.{removeEntry}
+use Rattle.removal.proofs.Removing.{removal-chain, removal-mark-in, removal-full}
+use Rattle.placement.specs.declared.Run.{Run}
+use Rattle.placement.specs.declared.Run.the-variants.{At, Nowhere}
+use Rattle.placement.specs.Runs.{runFor, fullIn}
+use Rattle.placement.proofs.Running.{Takes}
+use Rattle.placement.proofs.Taking.{first-taken, some-empty-few}
+use Rattle.edit.specs.Edits.{find, without, runOf, nowhereToGo, noRoom}
+use Rattle.edit.proofs.Finding.{find-live, live-segment}
+use Rattle.edit.proofs.Without.{without-found}
+use Rattle.edit.proofs.Replacing.{live-range}
+
+module _ (z : Shape) (img : List ℕ) (sound : SoundImage z img) (key value : List ℕ) (e : Live) (f : find z img key ≡ some e) where
+  abbrev n : ℕ
+  n = chunksFor (z .settings) (length key) (length value)
+
+  m : List·Memᴰ e (live z img)
+  m = find-live z img key e f .0
+
+  found : IsLive z img e
+  found = live-in z img e m
+
+  -- with the entry out, its tier has at most C - 2 full slots and its chunks are clear
+  own-takes : n ≤ e .chunks → Takes z (fullIn z (removeEntry z img e)) (clear z (removeEntry z img e)) (e .tier) (e .chunk) n
+  own-takes h =
+      record {
+        roomy =
+            omega (
+              arith,
+              removal-full z img (sound-but z img sound) e m,
+              some-empty-few z img (e .tier)
+                  (sound .fits .entries .tiersFit (e .segment) (found .segmentIn) (e .tier) (found .tierIn) .slotsFit .someEmpty),
+            );
+        ends = omega (arith, live-range z img sound e found);
+        clear = λ i a b. eq-eqb _ 0 (removal-mark-in z img (sound-but z img sound) e m i a (omega arith));
+      }
+
+  -- and it is a tier of the key's chain
+  own-chain : List·Memᴰ (e .tier) (chain z (removeEntry z img e) (segmentOf (z .settings) key))
+  own-chain =
+      let segment-is : e .segment ≡ segmentOf (z .settings) key =
+      sym (live-segment z img sound e found) ∙ ap (segmentOf (z .settings)) (find-live z img key e f .1) in
+      subst (λ (s : ℕ). List·Memᴰ (e .tier) (chain z (removeEntry z img e) s)) segment-is
+      (subst (List·Memᴰ (e .tier)) (sym (removal-chain z img (sound-but z img sound) e m (e .segment) (found .segmentIn))) (found .tierIn))
+
+  some-run : n ≤ e .chunks → runOf z (without z img key) key value ≢ Nowhere
+  unfolding runOf runFor
+  some-run h q =
+      let none-there : runOf z (removeEntry z img e) key value ≡ Nowhere =
+      subst (λ (x : List ℕ). runOf z x key value ≡ Nowhere) (without-found z img sound key e f) q in
+      first-taken z _ _ n (e .tier) (e .chunk) (own-takes h) _ own-chain none-there
+
+  room-by : (r : Run) → r ≢ Nowhere → nowhereToGo z (without z img key) r ≡ false
+  room-by (At t c) ne = refl
+  room-by Nowhere ne = absurd (ne refl)
+
+  pub replacement-room : chunksFor (z .settings) (length key) (length value) ≤ e .chunks → noRoom z img key value ≡ false
+  unfolding noRoom
+  replacement-room h = room-by _ (some-run h)
