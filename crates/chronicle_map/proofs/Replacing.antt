@@ -33,12 +33,12 @@ use Rattle.edit.proofs.Finding.{found-only}
 use Rattle.edit.proofs.Replacing.{live-key-fits, live-most}
 use Rattle.edit.proofs.Policies.{spot-some}
 use Rattle.edit.proofs.Roomy.{replacement-room}
-use Rattle.edit.proofs.OnTheSpot.{rewrites, spot-is}
+use Rattle.edit.proofs.OnTheSpot.{WritesOver, rewrites, spot-is}
 use Rattle.edit.proofs.Stored.{store-sound, store-pairs}
 use Rattle.chronicle_map.specs.declared.Answer.the-variants as answer
 use Rattle.chronicle_map.specs.Asked.{anEntry, GivenKeyFits, givenKeyFits?, GivenValueFits, givenValueFits?, afterValue, afterKey}
 use Rattle.chronicle_map.specs.Calls.{Edited, answerNumber, storeUnless, storing, store}
-use Rattle.chronicle_map.specs.History.{mapOf, mapGet}
+use Rattle.chronicle_map.specs.History.{stores, mapOf, mapGet, row10}
 use Rattle.chronicle_map.specs.Demands.{shape, Accepted}
 use Rattle.chronicle_map.proofs.Weights.{Weigh}
 use Rattle.chronicle_map.proofs.Accepting.{Holds, holds-again, map-again}
@@ -155,20 +155,26 @@ module _ {block img : List ℕ} {e : Live} {key value : List ℕ} (r : Replaceme
   unfolding shapeOf
   spot-of = ap (onTheSpot OnTheSpot (chunksFor (z′ .settings) (length key) (length value))) found ∙ spot-some _ e (sym (r .asMany))
 
-  pub spot-rewrites : Rewrites (shape block img) img (e .segment) (e .tier) (e .slot) key value
+  over : WritesOver z′ img key value e
   unfolding shapeOf
-  spot-rewrites = rewrites z′ img key value storable (r .keyBytes) (r .valueBytes) e found (sym (r .asMany))
+  over = record { storable = storable; keyBytes = r .keyBytes; valueBytes = r .valueBytes; isFound = found; asMany = sym (r .asMany) }
+
+  pub spot-rewrites : Rewrites (shape block img) img (e .segment) (e .tier) (e .slot) key value
+  spot-rewrites = rewrites over
 
   pub spot-image : store OnTheSpot block img key value .image ≡ rewritten (shape block img) img (e .tier) (e .slot) key value
-  unfolding storeImage shapeOf
-  spot-image =
-      image-is OnTheSpot ∙ ap (storedEntry z′ img key value) spot-of
-      ∙ spot-is z′ img key value storable (r .keyBytes) (r .valueBytes) e found (sym (r .asMany))
+  unfolding storeImage
+  spot-image = image-is OnTheSpot ∙ ap (storedEntry z′ img key value) spot-of ∙ spot-is over
 
-pub never-full : (block img : List ℕ) → Holds block img → (policy : Policy) (e : Live) → List·Memᴰ e (live (shape block img) img)
-    → (key value : List ℕ) → keyOf img (e .entry) ≡ key → chunksFor (settingsOf block) (length key) (length value) ≤ e .chunks
-    → answerNumber (store policy block img key value .answer) ≢ 10
-unfolding shapeOf
-never-full block img h policy e m key value k few =
-    not-10 block img h key value
-    (replacement-room (shape block img) img (h .sound) key value e (found-only (shape block img) img (h .sound) key e m k) few) policy
+-- ---- as many chunks or fewer
+
+module _ (block img : List ℕ) (h : Holds block img) (policy : Policy) (e : Live) (m : List·Memᴰ e (live (shape block img) img)) (key value : List ℕ)
+    (keyIs : keyOf img (e .entry) ≡ key) (few : chunksFor (settingsOf block) (length key) (length value) ≤ e .chunks) where
+  pub never-row10 : row10 block img (stores policy key value) ≡ false
+  unfolding row10 shapeOf
+  never-row10 =
+      replacement-room (shape block img) img (h .sound) key value e (found-only (shape block img) img (h .sound) key e m keyIs) few
+
+  pub never-full : answerNumber (store policy block img key value .answer) ≢ 10
+  unfolding row10
+  never-full = not-10 block img h key value never-row10 policy

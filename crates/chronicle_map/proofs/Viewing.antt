@@ -35,7 +35,7 @@ use Rattle.chronicle_map.specs.Calls.{endIn, searchEnd, fromFind, lookup
 use Rattle.chronicle_map.specs.Demands.{shape, Accepted, SameSize, Replacements}
 use Rattle.chronicle_map.proofs.Accepting.{Holds, accepted-holds, shape-again, holds-again}
 use Rattle.chronicle_map.proofs.Altering.{lookup-is, lookup-misfit}
-use Rattle.chronicle_map.proofs.Replacing.{Replacement, is-done, same-weight, same-map, same-marked, spot-rewrites, spot-image, never-full}
+use Rattle.chronicle_map.proofs.Replacing.{Replacement, is-done, same-weight, same-map, same-marked, spot-rewrites, spot-image, never-row10, never-full}
 
 module _ {block img : List ℕ} {e : Live} {key value : List ℕ} (r : Replacement block img e key value) where
   abbrev z : Shape
@@ -164,6 +164,7 @@ pub replacements : (block img : List ℕ) → Bytes img → Accepted block img �
 replacements block img b a =
     let h : Holds block img = accepted-holds block img b a in
     record {
+      neverRow10 = never-row10 block img h;
       neverFull = never-full block img h;
       sameSize = λ e m key value k kb vb long many.
           same-size (record { holds = h; isLive = m; keyIs = k; keyBytes = kb; valueBytes = vb; long = long; asMany = many });

@@ -3,7 +3,7 @@ use Prim.Native.Nat.{ℕ, _≤_, _<_}
 use mathlib.Core.List.{List, [], _∷_, _++_, List·Memᴰ}
 use mathlib.Core.Path.{_≡_}
 use mathlib.Core.Logic.{_≢_, _⊎_}
-use mathlib.Core.Bool.{Bool, _&&_}
+use mathlib.Core.Bool.{Bool, false, _&&_}
 use mathlib.Core.Option.{Option, none, some}
 use lib.Dec.{eqb}
 use lib.ListN.{length, getD, take, drop, replicate}
@@ -40,7 +40,7 @@ use Rattle.chronicle_map.specs.declared.SearchEnd.{SearchEnd}
 use Rattle.chronicle_map.specs.declared.Located.{Located}
 use Rattle.chronicle_map.specs.declared.Located.the-variants as looked
 use Rattle.chronicle_map.specs.Calls.{numberOf, placeOf, searchEnd, lookup, lookupNumbers, recordAt, recordLength, answerNumber, remove, store}
-use Rattle.chronicle_map.specs.History.{Call, looksUp, stores, removes, Map, hasKey, mapOf, mapGet, run, answers, told, mapAnswers, mapAfter}
+use Rattle.chronicle_map.specs.History.{Call, looksUp, stores, removes, Map, hasKey, mapOf, mapGet, row10, run, answers, told, mapAnswers, mapAfter}
 
 -- ---- demand 1, for every block, image, key and record
 
@@ -199,7 +199,9 @@ module _ (block img key value : List ℕ) (e : Live) where
     pub ownOffset : length (encode (length value)) ≡ length (encode (e .entry .valueLength)) → own .entry .valueAt ≡ e .entry .valueAt
 
 pub record Replacements (block img : List ℕ) : Type 0 where
-  -- neither kind answers 10 where the new entry takes as many chunks as the old one, or fewer
+  -- the row of 10 never holds where the new entry takes as many chunks as the old one, or fewer; so neither kind answers 10
+  pub neverRow10 : (policy : Policy) (e : Live) → List·Memᴰ e (live (shape block img) img) → (key value : List ℕ) → keyOf img (e .entry) ≡ key
+      → chunksFor (settingsOf block) (length key) (length value) ≤ e .chunks → row10 block img (stores policy key value) ≡ false
   pub neverFull : (policy : Policy) (e : Live) → List·Memᴰ e (live (shape block img) img) → (key value : List ℕ) → keyOf img (e .entry) ≡ key
       → chunksFor (settingsOf block) (length key) (length value) ≤ e .chunks → answerNumber (store policy block img key value .answer) ≢ 10
   pub sameSize : (e : Live) → List·Memᴰ e (live (shape block img) img) → (key value : List ℕ) → keyOf img (e .entry) ≡ key

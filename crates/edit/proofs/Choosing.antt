@@ -60,7 +60,9 @@ module _ {z : Shape} {img key value : List ℕ} {w : Walk} {n : ℕ} (k : Walks 
       spot-writes kb vb =
           let chunk-is : e .chunk ≡ chunkOf z img (e .tier) (e .slot) = spot-chunk z img key e (spot .1 .found) in
           let at-slot : CanWrite z img (e .tier) (chunkOf z img (e .tier) (e .slot)) key value =
-          rewrite-asks (rewrites z img key value (k .storable) kb vb e (spot .1 .found) (spot .1 .asMany)) in
+          rewrite-asks
+          (rewrites
+          (record { storable = k .storable; keyBytes = kb; valueBytes = vb; isFound = spot .1 .found; asMany = spot .1 .asMany })) in
           subst (λ (o : Old). CanWrite z img (o .tier) (o .chunk) key value) (sym old-here)
           (subst (λ (c : ℕ). CanWrite z img (e .tier) c key value) (sym chunk-is) at-slot)
 

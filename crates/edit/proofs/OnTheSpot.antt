@@ -34,10 +34,20 @@ pub spot-chunk : (z : Shape) (img key : List ℕ) (e : Live) → find z img key 
 unfolding liveAt
 spot-chunk z img key e f = ap (λ (x : Live). x .chunk) (live-in z img e (find-live z img key e f .0) .is)
 
-module _ (z : Shape) (img key value : List ℕ) (w : Storable z img key value) (keyBytes : Bytes key) (valueBytes : Bytes value)
-    (e : Live) (f : find z img key ≡ some e) (asMany : e .chunks ≡ chunksFor (z .settings) (length key) (length value)) where
+-- what is known before: e has the key, and the new entry takes as many chunks
+pub record WritesOver (z : Shape) (img key value : List ℕ) (e : Live) : Type 0 where
+  pub storable : Storable z img key value
+  pub keyBytes : Bytes key
+  pub valueBytes : Bytes value
+  pub isFound : find z img key ≡ some e
+  pub asMany : e .chunks ≡ chunksFor (z .settings) (length key) (length value)
+
+module _ {z : Shape} {img key value : List ℕ} {e : Live} (w : WritesOver z img key value e) where
+  sound : SoundImage z img
+  sound = w .storable .sound
+
   m : List·Memᴰ e (live z img)
-  m = find-live z img key e f .0
+  m = find-live z img key e (w .isFound) .0
 
   found : IsLive z img e
   found = live-in z img e m
@@ -47,21 +57,21 @@ module _ (z : Shape) (img key value : List ℕ) (w : Storable z img key value) (
   rewrites =
       record {
         segmentIn = found .segmentIn;
-        sound = w .sound;
+        sound = sound;
         tierIn = found .tierIn;
         slotIn = found .slotIn;
         full = found .full;
-        keyIs = ap (λ (x : Live). keyOf img (x .entry)) (sym (found .is)) ∙ find-live z img key e f .1;
-        keyBytes = keyBytes;
-        valueBytes = valueBytes;
-        valueFits = w .valueFits;
-        sameChunks = ap (λ (x : Live). x .chunks) (sym (found .is)) ∙ asMany;
+        keyIs = ap (λ (x : Live). keyOf img (x .entry)) (sym (found .is)) ∙ find-live z img key e (w .isFound) .1;
+        keyBytes = w .keyBytes;
+        valueBytes = w .valueBytes;
+        valueFits = w .storable .valueFits;
+        sameChunks = ap (λ (x : Live). x .chunks) (sym (found .is)) ∙ w .asMany;
       }
 
   -- the image after it
   pub spot-is : storedEntry z img key value (some e) ≡ writeEntry z img (e .tier) (chunkOf z img (e .tier) (e .slot)) key value
   unfolding storedEntry entryIn settle
-  spot-is = ap (λ (c : ℕ). writeEntry z img (e .tier) c key value) (spot-chunk z img key e f)
+  spot-is = ap (λ (c : ℕ). writeEntry z img (e .tier) c key value) (spot-chunk z img key e (w .isFound))
 
   pub spot-sound : SoundImage z (storedEntry z img key value (some e))
   spot-sound = rw spot-is (rewrite-sound rewrites)
@@ -75,12 +85,12 @@ module _ (z : Shape) (img key value : List ℕ) (w : Storable z img key value) (
       let pair-is : F (pairOf img e) ≡ F (pairOf img (liveAt z img (e .segment) (e .tier) (e .slot))) =
       ap (λ (x : Live). F (pairOf img x)) (found .is) in
       let left-over : total (pairsOf z (removeEntry z img e)) F ≡ total (those (pairsOf z img) (λ p. not (same (p .key) key))) F =
-      rw (without-found z img (w .sound) key e f) at (without-pairs z img (w .sound) key F) in
+      rw (without-found z img sound key e (w .isFound)) at (without-pairs z img sound key F) in
       rw spot-is
       (omega (
         arith,
         rewrite-pairs rewrites F,
         pair-is,
-        removal-pairs z img (sound-but z img (w .sound)) e m F,
+        removal-pairs z img (sound-but z img sound) e m F,
         left-over,
       ))

@@ -16,7 +16,7 @@ use Rattle.edit.specs.Edits.{noRoom, spotOf, tiersBy, storeTiers, stored
 use Rattle.edit.specs.Replaced.{Storable}
 use Rattle.edit.proofs.Policies.{Spot, spot-only}
 use Rattle.edit.proofs.Storing.{placed-sound, placed-lows, placed-pairs}
-use Rattle.edit.proofs.OnTheSpot.{spot-sound, spot-lows, spot-pairs}
+use Rattle.edit.proofs.OnTheSpot.{WritesOver, spot-sound, spot-lows, spot-pairs}
 
 module _ (policy : Policy) (z : Shape) (img key value : List ℕ) (w : Storable z img key value) (keyBytes : Bytes key) (valueBytes : Bytes value)
     (some-room : noRoom z img key value ≡ false) where
@@ -36,10 +36,12 @@ module _ (policy : Policy) (z : Shape) (img key value : List ℕ) (w : Storable 
       }
   after (some e) q =
       let s : Spot policy _ _ e = spot-only policy _ _ e q in
+      let over : WritesOver z img key value e =
+      record { storable = w; keyBytes = keyBytes; valueBytes = valueBytes; isFound = s .found; asMany = s .asMany } in
       record {
-        sound = spot-sound z img key value w keyBytes valueBytes e (s .found) (s .asMany);
-        lows = spot-lows z img key value w keyBytes valueBytes e (s .found) (s .asMany);
-        pairs = spot-pairs z img key value w keyBytes valueBytes e (s .found) (s .asMany);
+        sound = spot-sound over;
+        lows = spot-lows over;
+        pairs = spot-pairs over;
       }
 
   stored : After (spotOf policy z img key value)
