@@ -110,11 +110,22 @@ pub fn lookup(block: &[u8], image: &[u8], key: &[u8], place: &mut [u64; 4]) -> u
     }
 }
 
-/// A store: its number.
-pub fn store(block: &[u8], image: &mut [u8], key: &[u8], value: &[u8]) -> u32 {
+/// Both kinds of store have these parameters.
+type Store = unsafe extern "C" fn(
+    *const u8,
+    usize,
+    *mut u8,
+    usize,
+    *const u8,
+    usize,
+    *const u8,
+    usize,
+) -> u32;
+
+fn store_by(kind: Store, block: &[u8], image: &mut [u8], key: &[u8], value: &[u8]) -> u32 {
     // SAFETY: as in `check`.
     unsafe {
-        c::chronicle_map_store(
+        kind(
             block.as_ptr(),
             block.len(),
             image.as_mut_ptr(),
@@ -127,21 +138,14 @@ pub fn store(block: &[u8], image: &mut [u8], key: &[u8], value: &[u8]) -> u32 {
     }
 }
 
+/// A store: its number.
+pub fn store(block: &[u8], image: &mut [u8], key: &[u8], value: &[u8]) -> u32 {
+    store_by(c::chronicle_map_store, block, image, key, value)
+}
+
 /// A tight store: its number.
 pub fn store_tight(block: &[u8], image: &mut [u8], key: &[u8], value: &[u8]) -> u32 {
-    // SAFETY: as in `check`.
-    unsafe {
-        c::chronicle_map_store_tight(
-            block.as_ptr(),
-            block.len(),
-            image.as_mut_ptr(),
-            image.len(),
-            key.as_ptr(),
-            key.len(),
-            value.as_ptr(),
-            value.len(),
-        )
-    }
+    store_by(c::chronicle_map_store_tight, block, image, key, value)
 }
 
 /// A removal: its number.

@@ -16,10 +16,10 @@ use Rattle.edit.specs.Edits.{find, noRoom, removeTiers, storeTiers}
 use Rattle.edit.proofs.Without.{remove-lows}
 use Rattle.edit.proofs.Stored.{store-lows}
 use Rattle.chronicle_map.specs.Asked.{aKey, anEntry, GivenKeyFits, givenKeyFits?, GivenValueFits, givenValueFits?, afterValue, afterKey}
-use Rattle.chronicle_map.specs.Calls.{Edited, answerNumber, removeFound, removing, remove, storeUnless, storing, store}
+use Rattle.chronicle_map.specs.Calls.{Edited, answerNumber, removeFound, removing, remove, storeUnless, store}
 use Rattle.chronicle_map.specs.Demands.{Accepted, shape, LowMarksFollow}
 use Rattle.chronicle_map.proofs.Accepting.{Holds, accepted-holds}
-use Rattle.chronicle_map.proofs.Steps.{asked-holds}
+use Rattle.chronicle_map.proofs.Steps.{asked-holds, store-by-cases}
 
 module _ (block img : List ℕ) (h : Holds block img) where
   abbrev z : Shape
@@ -36,17 +36,10 @@ module _ (block img : List ℕ) (h : Holds block img) where
     with-row k v true e a = absurd (omega arith)
     with-row k v false e a = store-lows policy z img key value (record { sound = h .sound; keyFits = k; valueFits = v }) keyBytes valueBytes e
 
-    with-value : GivenKeyFits (z .settings) (anEntry key value) → (d : Dec (GivenValueFits (z .settings) (anEntry key value)))
-        → Follows (storeTiers policy z img key value) (storing policy img key value (afterValue z (countsOf z img) (anEntry key value) d))
-    unfolding choose afterValue storing
-    with-value k (no n) a = absurd (omega arith)
-    with-value k (yes v) a = with-row k v (noRoom z img key value) refl a
-
-    with-key : (d : Dec (GivenKeyFits (z .settings) (anEntry key value)))
-        → Follows (storeTiers policy z img key value) (storing policy img key value (afterKey z (countsOf z img) (anEntry key value) d))
-    unfolding choose afterKey storing
-    with-key (no n) a = absurd (omega arith)
-    with-key (yes k) a = with-value k (givenValueFits? (z .settings) (anEntry key value)) a
+    stored : Follows (storeTiers policy z img key value) (store policy block img key value)
+    stored =
+        store-by-cases block img h policy key value (Follows (storeTiers policy z img key value)) (λ a. absurd (omega arith)) (λ a. absurd (omega arith))
+        (λ k v. with-row k v (noRoom z img key value) refl)
 
   found : (key : List ℕ) (o : Option Live) → Follows (removeTiers z img key) (removeFound z img key o)
   unfolding removeFound
@@ -63,8 +56,7 @@ module _ (block img : List ℕ) (h : Holds block img) where
   unfolding store remove
   follow =
       record {
-        stored = λ policy key value kb vb.
-            rw (asked-holds block img h (anEntry key value)) (with-key policy key value kb vb (givenKeyFits? (z .settings) (anEntry key value)));
+        stored = stored;
         removed = λ key. rw (asked-holds block img h (aKey key)) (removal-key key (givenKeyFits? (z .settings) (aKey key)));
       }
 

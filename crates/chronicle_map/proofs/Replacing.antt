@@ -7,7 +7,6 @@ use mathlib.Core.Bool.{false, not}
 use mathlib.Core.Option.{some}
 use native.Mathlib.Omega.{arith}
 use lib.ListN.{length}
-use Rattle.lists.specs.Decide.{choose}
 use Rattle.lists.specs.Lists.{those, total}
 use Rattle.lists.proofs.Decides.{choose-yes}
 use Rattle.words.specs.Bytes.{Bytes, same}
@@ -23,7 +22,7 @@ use Rattle.entries.proofs.LiveLists.{live-in}
 use Rattle.sound.specs.Sound.{SoundImage}
 use Rattle.image.specs.declared.Counts.{Counts}
 use Rattle.image.specs.declared.Outcome.the-variants as outcome
-use Rattle.image.specs.Check.{countsOf, check}
+use Rattle.image.specs.Check.{check}
 use Rattle.placement.proofs.Rewriting.{Rewrites, rewritten}
 use Rattle.edit.specs.declared.Policy.{Policy}
 use Rattle.edit.specs.declared.Policy.the-variants.{OnTheSpot, Tight}
@@ -36,13 +35,13 @@ use Rattle.edit.proofs.Roomy.{replacement-room}
 use Rattle.edit.proofs.OnTheSpot.{WritesOver, rewrites, spot-is}
 use Rattle.edit.proofs.Stored.{store-sound, store-pairs}
 use Rattle.chronicle_map.specs.declared.Answer.the-variants as answer
-use Rattle.chronicle_map.specs.Asked.{anEntry, GivenKeyFits, givenKeyFits?, GivenValueFits, givenValueFits?, afterValue, afterKey}
+use Rattle.chronicle_map.specs.Asked.{anEntry, givenKeyFits?, givenValueFits?, afterValue, afterKey}
 use Rattle.chronicle_map.specs.Calls.{Edited, answerNumber, storeUnless, storing, store}
 use Rattle.chronicle_map.specs.History.{stores, mapOf, mapGet, row10}
 use Rattle.chronicle_map.specs.Demands.{shape, Accepted}
 use Rattle.chronicle_map.proofs.Weights.{Weigh}
 use Rattle.chronicle_map.proofs.Accepting.{Holds, holds-again, map-again}
-use Rattle.chronicle_map.proofs.Steps.{asked-holds}
+use Rattle.chronicle_map.proofs.Steps.{asked-holds, store-by-cases}
 use Rattle.chronicle_map.proofs.Altering.{same-get}
 use Rattle.chronicle_map.proofs.Keeping.{marked}
 
@@ -53,21 +52,11 @@ module _ (block img : List ℕ) (h : Holds block img) where
   module _ (key value : List ℕ) (room : noRoom z img key value ≡ false) (policy : Policy) where
     -- ---- 10 is not answered
 
-    not-10-value : (d : Dec (GivenValueFits (z .settings) (anEntry key value)))
-        → answerNumber (storing policy img key value (afterValue z (countsOf z img) (anEntry key value) d) .answer) ≢ 10
-    unfolding choose afterValue storing storeUnless
-    not-10-value (no n) = omega arith
-    not-10-value (yes v) = rw room (omega arith)
-
-    not-10-key : (d : Dec (GivenKeyFits (z .settings) (anEntry key value)))
-        → answerNumber (storing policy img key value (afterKey z (countsOf z img) (anEntry key value) d) .answer) ≢ 10
-    unfolding choose afterKey storing
-    not-10-key (no n) = omega arith
-    not-10-key (yes k) = not-10-value (givenValueFits? (z .settings) (anEntry key value))
-
     not-10 : answerNumber (store policy block img key value .answer) ≢ 10
-    unfolding store
-    not-10 = rw (asked-holds block img h (anEntry key value)) (not-10-key (givenKeyFits? (z .settings) (anEntry key value)))
+    unfolding storeUnless
+    not-10 =
+        store-by-cases block img h policy key value (λ x. answerNumber (x .answer) ≢ 10) (omega arith) (omega arith)
+        (λ k v. rw room (omega arith))
 
     -- ---- nor anything else but 0 where the key and the record fit
 

@@ -8,17 +8,23 @@ use native.Mathlib.Omega.{arith}
 use Rattle.lists.specs.Decide.{choose}
 use Rattle.lists.specs.Lists.{total}
 use Rattle.words.specs.Bytes.{Bytes, same}
+use lib.ListN.{length}
+use Rattle.settings.specs.declared.Settings.{Settings}
 use Rattle.settings.specs.Block.{settingsOf}
 use Rattle.layout.specs.declared.Shape.{Shape}
 use Rattle.layout.specs.Frame.{shapeOf}
 use Rattle.entries.specs.declared.Live.{Live}
+use Rattle.entries.specs.Keys.{KeyFits}
+use Rattle.entries.specs.Stored.{ValueFits}
 use Rattle.entries.specs.Pairs.{Pair, pairOf, pairsOf}
 use Rattle.sound.specs.Sound.{SoundImage}
 use Rattle.edit.specs.declared.Policy.{Policy}
+use Rattle.image.specs.declared.Stage.the-variants.{Key, Value}
 use Rattle.image.specs.declared.Examined.{Examined}
 use Rattle.image.specs.Check.{countsOf}
 use Rattle.edit.specs.Edits.{find, noRoom, storeImage}
 use Rattle.edit.specs.Replaced.{Storable}
+use Rattle.chronicle_map.specs.declared.Answer.the-variants as answer
 use Rattle.chronicle_map.specs.Asked.{Given, aKey, anEntry, GivenKeyFits, givenKeyFits?, GivenValueFits, givenValueFits?, afterValue, afterKey, afterExamined, asked}
 use Rattle.chronicle_map.specs.Calls.{numberOf, fromFind, lookedUp, lookup, lookupNumbers, recordAt, recordLength, recordBytes, Edited, answerNumber, removeFound, removing, remove, storeUnless, storing, store}
 use Rattle.chronicle_map.specs.History.{Call, looksUp, stores, removes, Said, says, leaves, row10, Map, hasKey, mapOf, mapGet, mapSet, mapDrop, Recalled, mapLookup, mapRemove, mapStore, unlessValue, unlessKey, unless, recall}
@@ -34,6 +40,30 @@ pub asked-holds : (block img : List ℕ) → Holds block img → (g : Given)
     → asked block img g ≡ afterKey (shape block img) (countsOf (shape block img) img) g (givenKeyFits? (shape block img .settings) g)
 unfolding asked afterExamined
 asked-holds block img h g = ap (afterExamined g) (holds-ready block img h)
+
+-- a store there, by whether key and record fit
+module _ (block img : List ℕ) (h : Holds block img) (policy : Policy) (key value : List ℕ) (P : Edited → Type 0)
+    (badKey : P (record { answer = answer.Refused Key; image = img })) (badValue : P (record { answer = answer.Refused Value; image = img }))
+    (fits : KeyFits (shape block img .settings) key → ValueFits (shape block img .settings) (length key) (length value)
+    → P (storeUnless policy (shape block img) img key value (noRoom (shape block img) img key value))) where
+  abbrev st : Settings
+  st = shape block img .settings
+
+  by-value : KeyFits st key → (d : Dec (GivenValueFits st (anEntry key value)))
+      → P (storing policy img key value (afterValue (shape block img) (countsOf (shape block img) img) (anEntry key value) d))
+  unfolding choose afterValue storing
+  by-value k (no n) = badValue
+  by-value k (yes v) = fits k v
+
+  by-key : (d : Dec (GivenKeyFits st (anEntry key value)))
+      → P (storing policy img key value (afterKey (shape block img) (countsOf (shape block img) img) (anEntry key value) d))
+  unfolding choose afterKey storing
+  by-key (no n) = badKey
+  by-key (yes k) = by-value k (givenValueFits? st (anEntry key value))
+
+  pub store-by-cases : P (store policy block img key value)
+  unfolding store
+  store-by-cases = rw (asked-holds block img h (anEntry key value)) (by-key (givenKeyFits? st (anEntry key value)))
 
 module _ (block img : List ℕ) (h : Holds block img) (m : Map) (w : Weigh (mapOf block img) m) where
   abbrev z : Shape

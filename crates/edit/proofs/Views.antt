@@ -81,7 +81,8 @@ module _ {z : Shape} {img : List ℕ} {s t j : ℕ} {key value : List ℕ} (w : 
     found-by none f = not-found f (find z m other) refl
     found-by (some o) f =
         let r : List·Memᴰ o (live z img) × (keyOf img (o .entry) ≡ other) = find-live z img other o f in
-        let there : List·Memᴰ o (live z m) × (pairOf m o ≡ pairOf img o) = live-stays o (r .0) (λ (q : keyOf img (o .entry) ≡ key). ne (sym (r .1) ∙ q)) in
+        let apart : keyOf img (o .entry) ≢ key = λ q. ne (sym (r .1) ∙ q) in
+        let there : List·Memᴰ o (live z m) × (pairOf m o ≡ pairOf img o) = live-stays o (r .0) apart in
         found-only z m (rewrite-sound w) other o (there .0) (ap (λ (p : Pair). p .key) (there .1) ∙ r .1)
 
     pub find-stays : find z (rewritten z img t j key value) other ≡ find z img other

@@ -59,7 +59,8 @@ covered-total z img s t i =
     ∙ liveIn-total z img s t (λ e. elim (covers i e) [ true ↦ 1 | false ↦ 0 ]) (coversOf z img t i) (λ j h ne. refl)
 
 -- two ranges without a common number
-apart-ranges : (d k c n : ℕ) → 0 < k → 0 < n → ((i : ℕ) → c ≤ i → i < c + n → d ≤ i → i < d + k → ⊥) → (d + k ≤ c) ⊎ (c + n ≤ d)
+apart-ranges : (d k c n : ℕ) → 0 < k → 0 < n → ((i : ℕ) → c ≤ i → i < c + n → d ≤ i → i < d + k → ⊥)
+    → (d + k ≤ c) ⊎ (c + n ≤ d)
 apart-ranges d k c n hk hn never =
     ⊎-elim
     (λ (l : c < d + k).

@@ -122,7 +122,8 @@ module _ {z : Shape} {img but : List ℕ} {s t c : ℕ} {key value : List ℕ} (
 
   -- ---- no key twice
 
-  own-after : (j k : ℕ) → j < slots → k < slots → slotAt z m′ t j ≢ 0 → slotAt z m′ t k ≢ 0 → keyAt z m′ t j ≡ keyAt z m′ t k → j ≡ k
+  own-after : (j k : ℕ) → j < slots → k < slots → slotAt z m′ t j ≢ 0 → slotAt z m′ t k ≢ 0
+      → keyAt z m′ t j ≡ keyAt z m′ t k → j ≡ k
   own-after j k hj hk fj fk e =
       ⊎-elim
       (λ (a : j ≡ r).

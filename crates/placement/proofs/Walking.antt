@@ -49,7 +49,8 @@ module _ (z : Shape) (img : List ℕ) where
     candidate-kept u c e key done f s =
         record { runIs = e ∙ sym (first-kept z _ _ done (t ∷ []) n u c (sym (s .runIs) ∙ e)); slotIs = s .slotIs }
 
-    pub candidate-tier : {old : Old} {r : Run} → IsTier z t → x .run ≡ Nowhere → old ≡ noOld → r ≡ runIn z (fullBut z img old) (clearBut z img old) t n
+    pub candidate-tier : {old : Old} {r : Run} → IsTier z t → x .run ≡ Nowhere → old ≡ noOld
+        → r ≡ runIn z (fullBut z img old) (clearBut z img old) t n
         → CandidateAfter z img n x t j (record { run = r; slot = j })
     unfolding runFor
     candidate-tier {old} {r} is e eo er key done f s =
@@ -191,7 +192,8 @@ module _ (z : Shape) (img : List ℕ) where
             oldEnds = rw (d .oldIs) (asks .oldEnds);
           }
 
-      pub placed-later : w .candidate .run ≡ Nowhere → {r : Run} → r ≡ run rest → PlaceIs z img key n (record { old = w .old; run = r; slot = Unknown })
+      pub placed-later : w .candidate .run ≡ Nowhere → {r : Run} → r ≡ run rest
+          → PlaceIs z img key n (record { old = w .old; run = r; slot = Unknown })
       placed-later e er =
           record {
             oldIs = d .oldIs;

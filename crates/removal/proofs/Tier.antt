@@ -91,7 +91,8 @@ module _ {z : Shape} {img : List ℕ} {s t j c n : ℕ} (w : Removable z img s t
       }
 
   module _ (mt : List·Memᴰ t (chain z img s)) (once : KeysOnce z img s) where
-    again-own : (i k : ℕ) → i < slots → k < slots → slotAt z new t i ≢ 0 → slotAt z new t k ≢ 0 → keyAt z new t i ≡ keyAt z new t k → i ≡ k
+    again-own : (i k : ℕ) → i < slots → k < slots → slotAt z new t i ≢ 0 → slotAt z new t k ≢ 0
+        → keyAt z new t i ≡ keyAt z new t k → i ≡ k
     again-own i k hi hk fi fk e =
         let a : Stood i = was i hi fi in
         let b : Stood k = was k hk fk in

@@ -81,7 +81,8 @@ module _ (z : Shape) (img : List ℕ) (s t : ℕ) (hs : s < z .settings .segment
 
   module _ (img′ : List ℕ) (only : OnlyTier z img img′ t) where
     -- what holds of the changed tier in its segment, and of the other tiers of a segment's chain
-    by-tier : (P : ℕ → ℕ → Type 0) → P s t → (s′ : ℕ) → s′ < segments → ((u : ℕ) → List·Memᴰ u (chain z img s′) → u ≢ t → P s′ u)
+    by-tier : (P : ℕ → ℕ → Type 0) → P s t → (s′ : ℕ) → s′ < segments
+        → ((u : ℕ) → List·Memᴰ u (chain z img s′) → u ≢ t → P s′ u)
         → Every (chain z img′ s′) (P s′)
     by-tier P p s′ h f u mu =
         let mu₀ : List·Memᴰ u (chain z img s′) = subst (List·Memᴰ u) (same-chain z img img′ (sound .fits .chains) (only .chains) s′ h) mu in
@@ -120,7 +121,8 @@ module _ (z : Shape) (img : List ℕ) (s t : ℕ) (hs : s < z .settings .segment
           absurd (a .apart u mu ne j k hj hk fj (other-full s hs u mu ne k hk fk) (e ∙ other-key s hs u mu ne k hk fk)))
 
       -- one of another
-      once-there : (s′ : ℕ) → s′ < segments → (v : ℕ) → List·Memᴰ v (chain z img s′) → v ≢ t → (j : ℕ) → j < slots → slotAt z img′ v j ≢ 0
+      once-there : (s′ : ℕ) → s′ < segments → (v : ℕ) → List·Memᴰ v (chain z img s′) → v ≢ t
+          → (j : ℕ) → j < slots → slotAt z img′ v j ≢ 0
           → KeyOnce z img′ s′ v j
       once-there s′ h v mv ne j hj fj u mu =
           let fv : slotAt z img v j ≢ 0 = other-full s′ h v mv ne j hj fj in

@@ -85,7 +85,8 @@ module _ (z : Shape) (img : List ℕ) where
 
 -- ---- two tables that agree slot by slot
 
-module _ (z : Shape) (t : ℕ) (img img′ : List ℕ) (f f′ : ℕ → ℕ) (same : Below (z .settings .slots) (λ j. slotAt z img′ t j ≡ slotAt z img t j)) where
+module _ (z : Shape) (t : ℕ) (img img′ : List ℕ) (f f′ : ℕ → ℕ)
+    (same : Below (z .settings .slots) (λ j. slotAt z img′ t j ≡ slotAt z img t j)) where
   open Shape z using (settings)
   open Settings settings using (slots)
 
