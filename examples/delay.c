@@ -6,28 +6,9 @@
 #include "chronicle_map.h"
 #include "files.h"
 
-#include <errno.h>
 #include <inttypes.h>
 #include <stdio.h>
 #include <stdlib.h>
-
-struct store {
-    const uint8_t *block;
-    size_t block_len;
-    uint8_t *image;
-    size_t image_len;
-};
-
-/* A number from least to most, from a word in decimals. */
-static int number(const char *word, int64_t least, int64_t most, int64_t *n)
-{
-    const char *digits = word[0] == '-' ? word + 1 : word;
-    char *end;
-
-    errno = 0;
-    *n = strtoll(word, &end, 10);
-    return digits[0] >= '0' && digits[0] <= '9' && *end == '\0' && errno == 0 && *n >= least && *n <= most;
-}
 
 /* Asks for a delay and prints it, or the answer's number. */
 static uint32_t ask(const struct store *s, uint32_t a, uint32_t b)
@@ -59,8 +40,6 @@ int main(int argc, char **argv)
 {
     struct store s;
     int64_t a, b, delay = 0;
-    size_t size;
-    uint8_t *bytes;
     uint32_t answer;
 
     if (argc < 4 || argc > 5 || !number(argv[2], 0, UINT32_MAX, &a) || !number(argv[3], 0, UINT32_MAX, &b)
@@ -68,16 +47,9 @@ int main(int argc, char **argv)
         fprintf(stderr, "delay FILE A B [D], with channels A and B and a delay D in microseconds\n");
         return 2;
     }
-    bytes = read_file(argv[1], &size);
-    if (bytes == NULL) {
-        fprintf(stderr, "delay: cannot read %s\n", argv[1]);
+    if (!read_store("delay", argv[1], &s))
         return 2;
-    }
-    s.block = bytes;
-    s.block_len = size < BLOCK_LENGTH ? size : BLOCK_LENGTH;
-    s.image = bytes + s.block_len;
-    s.image_len = size - s.block_len;
     answer = argc == 4 ? ask(&s, (uint32_t)a, (uint32_t)b) : set(&s, (uint32_t)a, (uint32_t)b, (int32_t)delay);
-    free(bytes);
+    free(s.block);
     return answer == CHRONICLE_MAP_DONE ? 0 : 1;
 }

@@ -12,47 +12,38 @@
 #include <stdlib.h>
 #include <string.h>
 
-/* The store kept in memory, and the entry that is replaced. */
+/* The store, and the entry that is replaced. */
 struct work {
-    const uint8_t *block;
-    size_t block_len;
-    const uint8_t *image;
-    size_t image_len;
+    struct store store;
     uint8_t key[2];
     uint8_t record[4];
 };
 
 /* Both kinds of store have these parameters. */
-typedef uint32_t store_kind(const uint8_t *, size_t, uint8_t *, size_t, const uint8_t *, size_t, const uint8_t *, size_t);
-
-/* A number in decimals, from low to high. */
-static int number(const char *word, long low, long high, long *n)
-{
-    char *end;
-
-    *n = strtol(word, &end, 10);
-    return end != word && *end == '\0' && *n >= low && *n <= high;
-}
+typedef uint32_t store_kind(const uint8_t *block, size_t block_len, uint8_t *image, size_t image_len,
+                            const uint8_t *key, size_t key_len, const uint8_t *value, size_t value_len);
 
 static void print_place(const struct work *w, const uint8_t *image, const char *when)
 {
+    const struct store *s = &w->store;
     struct chronicle_map_place place;
-    uint32_t answer = chronicle_map_lookup(w->block, w->block_len, image, w->image_len, w->key, sizeof w->key, &place);
+    uint32_t answer = chronicle_map_lookup(s->block, s->block_len, image, s->image_len, w->key, sizeof w->key, &place);
 
-    printf("%s: answer %" PRIu32 ", offset %" PRIu64 ", tier %" PRIu64 ", slot %" PRIu64 "\n", when, answer, place.offset,
-           place.tier, place.slot);
+    printf("%s: answer %" PRIu32 ", offset %" PRIu64 ", tier %" PRIu64 ", slot %" PRIu64 "\n", when, answer,
+           place.offset, place.tier, place.slot);
 }
 
 /* One kind of store, on a copy of the image. */
 static int replace(const struct work *w, store_kind *store, const char *name)
 {
-    uint8_t *copy = malloc(w->image_len + 1);
+    const struct store *s = &w->store;
+    uint8_t *copy = malloc(s->image_len + 1);
     uint32_t answer;
 
     if (copy == NULL)
         return 0;
-    memcpy(copy, w->image, w->image_len);
-    answer = store(w->block, w->block_len, copy, w->image_len, w->key, sizeof w->key, w->record, sizeof w->record);
+    memcpy(copy, s->image, s->image_len);
+    answer = store(s->block, s->block_len, copy, s->image_len, w->key, sizeof w->key, w->record, sizeof w->record);
     if (answer != CHRONICLE_MAP_DONE)
         printf("%s: answer %" PRIu32 "\n", name, answer);
     else
@@ -64,31 +55,23 @@ static int replace(const struct work *w, store_kind *store, const char *name)
 int main(int argc, char **argv)
 {
     struct work w;
-    long a, b, delay;
-    size_t size;
-    uint8_t *bytes;
+    int64_t a, b, delay;
     int i, done;
 
-    if (argc != 5 || !number(argv[2], 0, 255, &a) || !number(argv[3], 0, 255, &b) || !number(argv[4], INT32_MIN, INT32_MAX, &delay)) {
+    if (argc != 5 || !number(argv[2], 0, 255, &a) || !number(argv[3], 0, 255, &b)
+        || !number(argv[4], INT32_MIN, INT32_MAX, &delay)) {
         fprintf(stderr, "replace FILE A B DELAY, with A and B from 0 to 255\n");
         return 2;
     }
-    bytes = read_file(argv[1], &size);
-    if (bytes == NULL) {
-        fprintf(stderr, "replace: cannot read %s\n", argv[1]);
+    if (!read_store("replace", argv[1], &w.store))
         return 2;
-    }
-    w.block = bytes;
-    w.block_len = size < BLOCK_LENGTH ? size : BLOCK_LENGTH;
-    w.image = bytes + w.block_len;
-    w.image_len = size - w.block_len;
     w.key[0] = (uint8_t)a;
     w.key[1] = (uint8_t)b;
     for (i = 0; i < 4; i++)
         w.record[i] = (uint8_t)((uint32_t)delay >> 8 * i);
-    print_place(&w, w.image, "before");
+    print_place(&w, w.store.image, "before");
     done = replace(&w, chronicle_map_store, "store");
     done = replace(&w, chronicle_map_store_tight, "store_tight") && done;
-    free(bytes);
+    free(w.store.block);
     return done ? 0 : 1;
 }

@@ -95,9 +95,10 @@ uint32_t chronicle_map_check(const uint8_t *block, size_t block_len,
 /*
  * Looks up the record under a key. Keys are compared whole. Returns 0, 1 or one of 2 to 8.
  * With 0 the record is the `length` bytes from image + `offset` on, within the image, and stays there until a
- * store or a removal (a store that replaces another key's record on the spot leaves it there); an empty record is found with length 0. With 1 the key is absent, and tier and slot say
- * where the search for it ended: in the last tier of the chain of the key's segment, at the first empty slot
- * from the key's start slot on, wrapping. A store of that key may go to another tier or slot.
+ * store or a removal (a store that replaces another key's record on the spot leaves it there); an empty record
+ * is found with length 0. With 1 the key is absent, and tier and slot say where the search for it ended: in the
+ * last tier of the chain of the key's segment, at the first empty slot from the key's start slot on, wrapping.
+ * A store of that key may go to another tier or slot.
  */
 uint32_t chronicle_map_lookup(const uint8_t *block, size_t block_len,
                               const uint8_t *image, size_t image_len,
@@ -158,9 +159,9 @@ uint32_t chronicle_map_delay(const uint8_t *block, size_t block_len,
                              uint32_t a, uint32_t b, int32_t *delay);
 
 /*
- * Sets the delay of channels a and b, in that order, and so of both orders. It is chronicle_map_store of the pair's
- * record under its key, so a delay is replaced on the spot: what is there is replaced, and every other key keeps its record. Returns 0, one of 2 to 7, 11,
- * 12 where the delay is INT32_MIN, 9 or 10.
+ * Sets the delay of channels a and b, in that order, and so of both orders. It is chronicle_map_store of the
+ * pair's record under its key: what is there is replaced, on the spot where it is of as many chunks, and every
+ * other key keeps its record. Returns 0, one of 2 to 7, 11, 12 where the delay is INT32_MIN, 9 or 10.
  */
 uint32_t chronicle_map_set_delay(const uint8_t *block, size_t block_len,
                                  uint8_t *image, size_t image_len,

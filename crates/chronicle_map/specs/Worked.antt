@@ -94,8 +94,11 @@ replaced policy =
     stores OnTheSpot (pair 1 2) (replicate 12 0) ∷ stores OnTheSpot (pair 2 1) (four 21) ∷ removes (pair 1 2)
     ∷ stores policy (pair 2 1) (four 22) ∷ []
 
+abbrev pub store20 : List Call
+store20 = stores OnTheSpot (pair 3 1) (replicate 20 0) ∷ []
+
 abbrev pub later : List Call
-later = stores OnTheSpot (pair 3 1) (replicate 20 0) ∷ stores OnTheSpot (pair 1 3) (replicate 28 0) ∷ []
+later = store20 ++ (stores OnTheSpot (pair 1 3) (replicate 28 0) ∷ [])
 
 -- ---- a case: calls made on an image, then a question, and what is due
 
@@ -238,10 +241,11 @@ cases =
     -- tight, slots 1 to 3 change too: the entry moves to slot 3, and to the chunk that it freed
     ∷ case imageX after4 (changes (with20 Tight)) (100 ∷ 3 ∷ 104 ∷ 5 ∷ 108 ∷ 1 ∷ 236 ∷ 32 ∷ [])
     -- the lowest free chunk field is left on the spot, though it lags; a tight store writes it
-    ∷ case lagging4 (with20 OnTheSpot) (bytes 76 4) (0 ∷ 0 ∷ 0 ∷ 0 ∷ [])
+    ∷ case lagging4 [] (changes (with20 OnTheSpot)) (236 ∷ 32 ∷ [])
     ∷ case (withLow imageX after2 0) (with20 Tight) (bytes 76 4) (1 ∷ 0 ∷ 0 ∷ 0 ∷ [])
     ∷ case (withLow imageX after2 0) (with20 Tight) (lists 0) (0 ∷ 0 ∷ 1 ∷ 1 ∷ 0 ∷ 1 ∷ 2 ∷ 4 ∷ [])
     -- a record of two chunks moves, one of one chunk moves back: chunks are compared, not bytes
+    ∷ case imageX after8 (bytes 96 16) (0 ∷ 0 ∷ 0 ∷ 0 ∷ 3 ∷ 0 ∷ 0 ∷ 0 ∷ 5 ∷ 0 ∷ 0 ∷ 0 ∷ 7 ∷ 0 ∷ 0 ∷ 0 ∷ [])
     ∷ case imageX (after4 ++ shorter) (bytes 96 16) (0 ∷ 0 ∷ 0 ∷ 0 ∷ 3 ∷ 0 ∷ 0 ∷ 0 ∷ 5 ∷ 0 ∷ 0 ∷ 0 ∷ 1 ∷ 0 ∷ 0 ∷ 0 ∷ [])
     ∷ case imageX (after4 ++ shorter) (bytes 224 1) (7 ∷ [])
     ∷ case imageX (after4 ++ (stores OnTheSpot (pair 1 2) (replicate 9 9) ∷ [])) (lists 2) (0 ∷ 0 ∷ 1 ∷ 3 ∷ 3 ∷ 2 ∷ 2 ∷ 9 ∷ [])
@@ -250,6 +254,8 @@ cases =
     -- after one such replacement later stores may differ in 10
     ∷ case smallX (replaced OnTheSpot) (bytes 224 1) (4 ∷ [])
     ∷ case smallX (replaced Tight) (bytes 224 1) (1 ∷ [])
+    ∷ case smallX (replaced OnTheSpot ++ store20) (bytes 224 1) (60 ∷ [])
+    ∷ case smallX (replaced Tight ++ store20) (bytes 224 1) (15 ∷ [])
     ∷ case smallX (replaced OnTheSpot ++ later) answered (0 ∷ 0 ∷ 0 ∷ 0 ∷ 0 ∷ 10 ∷ [])
     ∷ case smallX (replaced Tight ++ later) answered (0 ∷ 0 ∷ 0 ∷ 0 ∷ 0 ∷ 0 ∷ [])
     ∷ case smallX (replaced OnTheSpot ++ later) (bytes 224 1) (60 ∷ [])
