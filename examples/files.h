@@ -1,4 +1,4 @@
-/* What the examples share: a file of a settings block of 71 bytes and, after it, the image; and numbers as words. */
+/* What the examples share: a file of a settings block of 71 bytes and, after it, the image; and a number read from a word. */
 #ifndef FILES_H
 #define FILES_H
 

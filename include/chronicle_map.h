@@ -160,8 +160,9 @@ uint32_t chronicle_map_delay(const uint8_t *block, size_t block_len,
 
 /*
  * Sets the delay of channels a and b, in that order, and so of both orders. It is chronicle_map_store of the
- * pair's record under its key: what is there is replaced, on the spot where it is of as many chunks, and every
- * other key keeps its record. Returns 0, one of 2 to 7, 11, 12 where the delay is INT32_MIN, 9 or 10.
+ * pair's record under its key: what is there is replaced, on the spot where the old entry takes as many chunks
+ * as the new one, and every other key keeps its record. Returns 0, one of 2 to 7, 11, 12 where the delay is
+ * INT32_MIN, 9 or 10.
  */
 uint32_t chronicle_map_set_delay(const uint8_t *block, size_t block_len,
                                  uint8_t *image, size_t image_len,

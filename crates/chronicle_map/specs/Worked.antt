@@ -88,17 +88,18 @@ with7 = stores OnTheSpot (pair 1 2) (7 ∷ []) ∷ []
 abbrev pub smallX : List ℕ
 smallX = putLe (putLe (replicate 296 0) 21 4 64) 25 8 296
 
--- 02 01 is left in chunk 2 with chunks 0 and 1 clear, and replaced by a policy; then two stores of 3 and 4 chunks
+-- 02 01 is left in chunk 2 with chunks 0 and 1 clear, and replaced by a policy
 abbrev pub replaced : Policy → List Call
 replaced policy =
     stores OnTheSpot (pair 1 2) (replicate 12 0) ∷ stores OnTheSpot (pair 2 1) (four 21) ∷ removes (pair 1 2)
     ∷ stores policy (pair 2 1) (four 22) ∷ []
 
-abbrev pub store20 : List Call
-store20 = stores OnTheSpot (pair 3 1) (replicate 20 0) ∷ []
+-- after it a store of three chunks, and then one of four
+abbrev pub threeChunks : List Call
+threeChunks = stores OnTheSpot (pair 3 1) (replicate 20 0) ∷ []
 
 abbrev pub later : List Call
-later = store20 ++ (stores OnTheSpot (pair 1 3) (replicate 28 0) ∷ [])
+later = threeChunks ++ (stores OnTheSpot (pair 1 3) (replicate 28 0) ∷ [])
 
 -- ---- a case: calls made on an image, then a question, and what is due
 
@@ -254,8 +255,8 @@ cases =
     -- after one such replacement later stores may differ in 10
     ∷ case smallX (replaced OnTheSpot) (bytes 224 1) (4 ∷ [])
     ∷ case smallX (replaced Tight) (bytes 224 1) (1 ∷ [])
-    ∷ case smallX (replaced OnTheSpot ++ store20) (bytes 224 1) (60 ∷ [])
-    ∷ case smallX (replaced Tight ++ store20) (bytes 224 1) (15 ∷ [])
+    ∷ case smallX (replaced OnTheSpot ++ threeChunks) (bytes 224 1) (60 ∷ [])
+    ∷ case smallX (replaced Tight ++ threeChunks) (bytes 224 1) (15 ∷ [])
     ∷ case smallX (replaced OnTheSpot ++ later) answered (0 ∷ 0 ∷ 0 ∷ 0 ∷ 0 ∷ 10 ∷ [])
     ∷ case smallX (replaced Tight ++ later) answered (0 ∷ 0 ∷ 0 ∷ 0 ∷ 0 ∷ 0 ∷ [])
     ∷ case smallX (replaced OnTheSpot ++ later) (bytes 224 1) (60 ∷ [])
