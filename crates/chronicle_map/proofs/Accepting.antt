@@ -71,13 +71,24 @@ module _ (block img : List ℕ) where
       let r : (z : Shape) × (d : Counts) × (examine block img ≡ Ready z d) = accepted-ready (examine block img) c e in
       ready-holds (r .0) (r .1) b (r .2)
 
--- an image of the same shape holds too, and reads as what it reads as under that shape
+-- an image that is sound under a shape with the block's settings holds too, and reads as what it reads as under that shape
+module _ {block img : List ℕ} (fits : BlockFits block) {z : Shape} (own : z .settings ≡ settingsOf block) (sound : SoundImage z img) where
+  pub shape-by : z ≡ shape block img
+  shape-by = sym (sound .shape) ∙ ap (λ (st : Settings). shapeOf st img) own
+
+  pub holds-by : Holds block img
+  holds-by = record { blockFits = fits; sound = subst (λ (x : Shape). SoundImage x img) shape-by sound }
+
+  pub map-by : pairsOf z img ≡ mapOf block img
+  map-by = ap (λ (x : Shape). pairsOf x img) shape-by
+
+-- so does an image of the same shape
 module _ {block img img′ : List ℕ} (h : Holds block img) (sound : SoundImage (shape block img) img′) where
   pub shape-again : shape block img ≡ shape block img′
-  shape-again = sym (sound .shape) ∙ ap (λ (st : Settings). shapeOf st img′) (shape-settings (settingsOf block) img)
+  shape-again = shape-by (h .blockFits) (shape-settings (settingsOf block) img) sound
 
   pub holds-again : Holds block img′
-  holds-again = record { blockFits = h .blockFits; sound = subst (λ (z : Shape). SoundImage z img′) shape-again sound }
+  holds-again = holds-by (h .blockFits) (shape-settings (settingsOf block) img) sound
 
   pub map-again : pairsOf (shape block img) img′ ≡ mapOf block img′
-  map-again = ap (λ (z : Shape). pairsOf z img′) shape-again
+  map-again = map-by (h .blockFits) (shape-settings (settingsOf block) img) sound

@@ -37,7 +37,7 @@ use Rattle.entries.proofs.LiveLists.{live-in}
 use Rattle.chronicle_map.specs.declared.Located.the-variants as looked
 use Rattle.chronicle_map.specs.Asked.{aKey, anEntry, GivenKeyFits, givenKeyFits?, GivenValueFits, givenValueFits?, afterValue, afterKey}
 use Rattle.chronicle_map.specs.Calls.{placeOf, searchEnd, fromFind, lookedUp, lookup, answerNumber, remove, store}
-use Rattle.chronicle_map.specs.History.{Call, Said, stores, removes, says, leaves, row10, Map, hasKey, mapOf, mapGet, mapDrop, mapSet, mapRemove, mapStore, unlessValue, unlessKey, unless, recall}
+use Rattle.chronicle_map.specs.History.{Call, Said, stores, removes, says, leaves, toldOf, Map, hasKey, mapOf, mapGet, mapDrop, mapSet, mapRemove, mapStore, unlessValue, unlessKey, unless, recall}
 use Rattle.chronicle_map.specs.Demands.{Accepted, shape, Fits, LooksUp, Alters, Demand2}
 use Rattle.chronicle_map.proofs.Weights.{Weigh}
 use Rattle.chronicle_map.proofs.Accepting.{Holds, holds-accepted, accepted-ready, accepted-holds}
@@ -204,10 +204,10 @@ module _ (block img : List ℕ) (b : Bytes img) (a : Accepted block img) where
   stored policy key value kb vb e =
       let call : Call = stores policy key value in
       let s : Step block img h (pairsOf z img) (λ F. refl) call = step block img h (pairsOf z img) (λ F. refl) call (kb, vb) in
-      let n : recall (settingsOf block) (pairsOf z img) call (row10 block img call) .said .number ≡ 0 =
+      let n : recall (settingsOf block) (pairsOf z img) call (toldOf block img call) .said .number ≡ 0 =
       ap (λ (x : Said). x .number) (sym (s .said)) ∙ e in
-      let m : recall (settingsOf block) (pairsOf z img) call (row10 block img call) .map ≡ mapSet (pairsOf z img) key value =
-      store-zero (settingsOf block) (pairsOf z img) key value (row10 block img call) (givenKeyFits? (settingsOf block) (anEntry key value)) n in
+      let m : recall (settingsOf block) (pairsOf z img) call (toldOf block img call) .map ≡ mapSet (pairsOf z img) key value =
+      store-zero (settingsOf block) (pairsOf z img) key value (toldOf block img call) (givenKeyFits? (settingsOf block) (anEntry key value)) n in
       alters (store policy block img key value .image) key (mapSet (pairsOf z img) key value) (some (record { key = key; value = value })) (s .holds)
       (rw m at (s .weighs)) (set-own (pairsOf z img) key value) (set-other (pairsOf z img) key value)
 

@@ -33,6 +33,8 @@ use Rattle.image.specs.declared.Stage.{Stage}
 use Rattle.image.specs.declared.Counts.{Counts}
 use Rattle.image.specs.declared.Examined.{Examined}
 use Rattle.image.specs.declared.Examined.the-variants.{Ready, Refused}
+use Rattle.image.specs.Check.{examine}
+use Rattle.growing.specs.Growing.{noBulk, growImage}
 use Rattle.chronicle_map.specs.declared.RecordPlace.{RecordPlace}
 use Rattle.chronicle_map.specs.declared.SearchEnd.{SearchEnd}
 use Rattle.chronicle_map.specs.declared.Located.{Located}
@@ -40,7 +42,7 @@ use Rattle.chronicle_map.specs.declared.Located.the-variants as located
 use Rattle.chronicle_map.specs.declared.Answer.{Answer}
 use Rattle.chronicle_map.specs.declared.Answer.the-variants as answer
 use Rattle.chronicle_map.specs.Asked.{aKey, anEntry, asked}
-use Rattle.chronicle_map.specs.Calls.{placeOf, fromFind, lookedUp, lookup, recordAt, recordLength, PartOf, RecordOf, removeFound, removing, remove, storeUnless, storing, store}
+use Rattle.chronicle_map.specs.Calls.{placeOf, fromFind, lookedUp, lookup, recordAt, recordLength, PartOf, RecordOf, removeFound, removing, remove, storeUnless, storing, store, growUnless, growing, grow}
 use Rattle.chronicle_map.proofs.Asking.{key-sound}
 
 -- ---- lookup
@@ -179,3 +181,25 @@ module _ (policy : Policy) (block img key value : List ℕ) {x : Examined} (ex :
       → record { answer = r; image = img′ } ≡ store policy block img key value
   unfolding store storing
   store-ready z c e er = er ∙ ap (storing policy img key value) (sym e ∙ ex)
+
+-- ---- one bulk more
+
+module _ (z : Shape) (img : List ℕ) where
+  pub grow-full : {b : Bool} → b ≡ noBulk z (length img) → b ≡ true → record { answer = answer.NoBulk; image = img } ≡ growUnless z img (noBulk z (length img))
+  unfolding growUnless
+  grow-full e t = ap (growUnless z img) (sym t ∙ e)
+
+  pub grow-done : {b : Bool} → b ≡ noBulk z (length img) → b ≡ false → {img′ : List ℕ} → img′ ≡ growImage z img
+      → record { answer = answer.Done; image = img′ } ≡ growUnless z img (noBulk z (length img))
+  unfolding growUnless
+  grow-done e t f = (λ i. record { answer = answer.Done; image = f i }) ∙ ap (growUnless z img) (sym t ∙ e)
+
+module _ (block img : List ℕ) {x : Examined} (ex : x ≡ examine block img) where
+  pub grow-refused : (s : Stage) → x ≡ Refused s → record { answer = answer.Refused s; image = img } ≡ grow block img
+  unfolding grow growing
+  grow-refused s e = ap (growing img) (sym e ∙ ex)
+
+  pub grow-ready : (z : Shape) (c : Counts) → x ≡ Ready z c → {r : Answer} {img′ : List ℕ}
+      → record { answer = r; image = img′ } ≡ growUnless z img (noBulk z (length img)) → record { answer = r; image = img′ } ≡ grow block img
+  unfolding grow growing
+  grow-ready z c e er = er ∙ ap (growing img) (sym e ∙ ex)

@@ -26,7 +26,7 @@ use Rattle.sound.proofs.Marked.{marked-sum}
 use Rattle.image.specs.declared.Counts.{Counts}
 use Rattle.image.specs.declared.Outcome.the-variants as outcome
 use Rattle.image.specs.Check.{countsOf, check}
-use Rattle.chronicle_map.specs.History.{Call, leaves, row10, run, answers, told, Map, hasKey, mapOf, recall, mapAnswers, mapAfter}
+use Rattle.chronicle_map.specs.History.{Call, leaves, toldOf, run, answers, told, Map, hasKey, mapOf, recall, mapAnswers, mapAfter}
 use Rattle.chronicle_map.specs.Demands.{Accepted, ByteCalls, shape, coversIn, Keeps}
 use Rattle.chronicle_map.proofs.Weights.{Weigh, weigh-in, weigh-length}
 use Rattle.chronicle_map.proofs.Accepting.{Holds, holds-accepted, holds-counts, accepted-holds}
@@ -43,8 +43,8 @@ module _ (block : List ℕ) where
   same-answers (c ∷ cs) img m h w b =
       let s : Step block img h m w c = step block img h m w c (b .0) in
       let rest : answers block (leaves block img c) cs
-      ≡ mapAnswers (settingsOf block) (recall (settingsOf block) m c (row10 block img c) .map) cs (told block (leaves block img c) cs) =
-      same-answers cs (leaves block img c) (recall (settingsOf block) m c (row10 block img c) .map) (s .holds) (s .weighs) (b .1) in
+      ≡ mapAnswers (settingsOf block) (recall (settingsOf block) m c (toldOf block img c) .map) cs (told block (leaves block img c) cs) =
+      same-answers cs (leaves block img c) (recall (settingsOf block) m c (toldOf block img c) .map) (s .holds) (s .weighs) (b .1) in
       λ i. s .said i ∷ rest i
 
   pub record After (img : List ℕ) (m : Map) : Type 0 where
@@ -57,7 +57,7 @@ module _ (block : List ℕ) where
   after [] img m h w b = record { holds = h; weighs = w }
   after (c ∷ cs) img m h w b =
       let s : Step block img h m w c = step block img h m w c (b .0) in
-      after cs (leaves block img c) (recall (settingsOf block) m c (row10 block img c) .map) (s .holds) (s .weighs) (b .1)
+      after cs (leaves block img c) (recall (settingsOf block) m c (toldOf block img c) .map) (s .holds) (s .weighs) (b .1)
 
 -- ---- what an image and a map say that agree
 

@@ -14,5 +14,6 @@ pub mod Altering
 pub mod LowMarks
 pub mod Replacing
 pub mod Viewing
+pub mod Growing
 pub mod Worked
 pub mod Laws

@@ -1,6 +1,6 @@
 -- Demand 1: which numbers the calls answer, and what a refusal leaves, whatever they are given.
 use Prim.Native.Nat.{ℕ, _+_, _≤_, _<_}
-use mathlib.Core.List.{List, [], _∷_, List·Memᴰ·head, List·Memᴰ·tail}
+use mathlib.Core.List.{List, [], _∷_, List·Memᴰ·head, List·Memᴰ·tail, Memᴰ·append-left, Memᴰ·append-right}
 use mathlib.Core.Path.{_≡_, refl, ap, subst}
 use mathlib.Core.Logic.{_≢_}
 use mathlib.Core.Bool.{Bool, true, false}
@@ -23,12 +23,13 @@ use Rattle.image.specs.declared.Examined.the-variants.{Ready, Refused}
 use Rattle.image.specs.Check.{stageNumber, examine, verdictOf, check, verdictNumbers}
 use Rattle.image.specs.List.{pick, fromNth, fromExamined, entry, listedNumbers}
 use Rattle.image.proofs.Ready.{Fitting, ready-fitting, ready-framed}
+use Rattle.growing.specs.Growing.{noBulk}
 use Rattle.edit.specs.Edits.{find, noRoom}
 use Rattle.chronicle_map.specs.declared.SearchEnd.{SearchEnd}
 use Rattle.chronicle_map.specs.declared.Located.{Located}
 use Rattle.chronicle_map.specs.declared.Located.the-variants as looked
 use Rattle.chronicle_map.specs.Asked.{aKey, anEntry, asked}
-use Rattle.chronicle_map.specs.Calls.{numberOf, searchEnd, fromFind, lookedUp, lookup, lookupNumbers, recordAt, recordLength, answerNumber, removeFound, removing, remove, storeUnless, storing, store}
+use Rattle.chronicle_map.specs.Calls.{numberOf, searchEnd, fromFind, lookedUp, lookup, lookupNumbers, recordAt, recordLength, answerNumber, removeFound, removing, remove, storeUnless, storing, store, growUnless, growing, grow}
 use Rattle.chronicle_map.specs.Demands.{Answers, shape, Ended, LookupAnswers, Demand1}
 use Rattle.chronicle_map.proofs.Asking.{key-ready}
 use Rattle.chronicle_map.proofs.Highest.{Most, Not8, stage-least, examine-most, asked-most, asked-not-8}
@@ -142,6 +143,26 @@ module _ (img key : List ℕ) where
         by-room true n = refl
         by-room false n = absurd (n refl)
 
+module _ (img : List ℕ) where
+  grow-answers : (x : Examined) → Most 7 x → Answers (0 ∷ 2 ∷ 3 ∷ 4 ∷ 5 ∷ 6 ∷ 7 ∷ 13 ∷ []) (answerNumber (growing img x .answer) ∷ [])
+  unfolding growing growUnless span
+  grow-answers (Refused s) w =
+      record { allowed = List·Memᴰ·tail (Memᴰ·append-left (13 ∷ []) (in-span 2 6 (stageNumber s) (stage-least s) (omega arith))); zeros = λ _. refl }
+  grow-answers (Ready z c) w = by-room (noBulk z (length img))
+    where
+      by-room : (r : Bool) → Answers (0 ∷ 2 ∷ 3 ∷ 4 ∷ 5 ∷ 6 ∷ 7 ∷ 13 ∷ []) (answerNumber (growUnless z img r .answer) ∷ [])
+      by-room true = record { allowed = List·Memᴰ·tail (Memᴰ·append-right (span 2 6) (List·Memᴰ·head refl)); zeros = λ _. refl }
+      by-room false = record { allowed = List·Memᴰ·head refl; zeros = λ ne. absurd (ne refl) }
+
+  grow-refused : (x : Examined) → answerNumber (growing img x .answer) ≢ 0 → growing img x .image ≡ img
+  unfolding growing growUnless
+  grow-refused (Refused s) n = refl
+  grow-refused (Ready z c) n = by-room (noBulk z (length img)) n
+    where
+      by-room : (r : Bool) → answerNumber (growUnless z img r .answer) ≢ 0 → growUnless z img r .image ≡ img
+      by-room true n = refl
+      by-room false n = absurd (n refl)
+
 -- ---- a key that fits is never refused with 8
 
 looked-not-8 : (img key : List ℕ) (x : Examined) → Not8 x → numberOf (lookupNumbers (lookedUp img key x)) ≢ 8
@@ -174,7 +195,7 @@ module _ (block img key : List ℕ) (fits : (st : Settings) → KeyFits st key) 
 -- ---- all of it
 
 pub demand1 : (block img : List ℕ) → Demand1 block img
-unfolding check entry lookup remove store span
+unfolding check entry lookup remove store grow span
 demand1 block img =
     record {
       checkAnswers = check-answers (examine block img) (examine-most block img);
@@ -182,9 +203,11 @@ demand1 block img =
       lookupAnswers = λ key. lookup-answers block img key (asked block img (aKey key)) (asked-most block img (aKey key)) refl;
       removalAnswers = λ key. removal-answers img key (asked block img (aKey key)) (asked-most block img (aKey key));
       storeAnswers = λ policy key value. store-answers img key policy value (asked block img (anEntry key value)) (asked-most block img (anEntry key value));
+      growAnswers = grow-answers img (examine block img) (examine-most block img);
       noRecord = λ key. no-record (lookup block img key);
       removalRefused = λ key. removal-refused img key (asked block img (aKey key));
       storeRefused = λ policy key value. store-refused img key policy value (asked block img (anEntry key value));
+      growRefused = grow-refused img (examine block img);
       stagesTold = stages-told;
       checksTold = checks-told;
       listsTold = lists-told;

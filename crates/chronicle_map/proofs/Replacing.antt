@@ -37,7 +37,7 @@ use Rattle.edit.proofs.Stored.{store-sound, store-pairs}
 use Rattle.chronicle_map.specs.declared.Answer.the-variants as answer
 use Rattle.chronicle_map.specs.Asked.{anEntry, givenKeyFits?, givenValueFits?, afterValue, afterKey}
 use Rattle.chronicle_map.specs.Calls.{Edited, answerNumber, storeUnless, storing, store}
-use Rattle.chronicle_map.specs.History.{stores, mapOf, mapGet, row10}
+use Rattle.chronicle_map.specs.History.{stores, mapOf, mapGet, toldOf}
 use Rattle.chronicle_map.specs.Demands.{shape, Accepted}
 use Rattle.chronicle_map.proofs.Weights.{Weigh}
 use Rattle.chronicle_map.proofs.Accepting.{Holds, holds-again, map-again}
@@ -52,7 +52,7 @@ module _ (block img : List ℕ) (h : Holds block img) where
   module _ (key value : List ℕ) (room : noRoom z img key value ≡ false) (policy : Policy) where
     -- ---- 10 is not answered
 
-    not-10 : answerNumber (store policy block img key value .answer) ≢ 10
+    pub not-10 : answerNumber (store policy block img key value .answer) ≢ 10
     unfolding storeUnless
     not-10 =
         store-by-cases block img h policy key value (λ x. answerNumber (x .answer) ≢ 10) (omega arith) (omega arith)
@@ -159,11 +159,11 @@ module _ {block img : List ℕ} {e : Live} {key value : List ℕ} (r : Replaceme
 
 module _ (block img : List ℕ) (h : Holds block img) (policy : Policy) (e : Live) (m : List·Memᴰ e (live (shape block img) img)) (key value : List ℕ)
     (keyIs : keyOf img (e .entry) ≡ key) (few : chunksFor (settingsOf block) (length key) (length value) ≤ e .chunks) where
-  pub never-row10 : row10 block img (stores policy key value) ≡ false
-  unfolding row10 shapeOf
+  pub never-row10 : toldOf block img (stores policy key value) ≡ false
+  unfolding toldOf shapeOf
   never-row10 =
       replacement-room (shape block img) img (h .sound) key value e (found-only (shape block img) img (h .sound) key e m keyIs) few
 
   pub never-full : answerNumber (store policy block img key value .answer) ≢ 10
-  unfolding row10
+  unfolding toldOf
   never-full = not-10 block img h key value never-row10 policy

@@ -13,11 +13,14 @@ use Rattle.settings.specs.declared.Settings.{Settings}
 use Rattle.settings.specs.Block.{settingsOf}
 use Rattle.layout.specs.declared.Shape.{Shape}
 use Rattle.layout.specs.Frame.{shapeOf}
+use Rattle.layout.proofs.Frames.{shape-settings}
 use Rattle.entries.specs.declared.Live.{Live}
 use Rattle.entries.specs.Keys.{KeyFits}
 use Rattle.entries.specs.Stored.{ValueFits}
 use Rattle.entries.specs.Pairs.{Pair, pairOf, pairsOf}
 use Rattle.sound.specs.Sound.{SoundImage}
+use Rattle.growing.specs.Growing.{grown, noBulk, growImage}
+use Rattle.growing.proofs.Sound.{grow-sound, grow-pairs}
 use Rattle.edit.specs.declared.Policy.{Policy}
 use Rattle.image.specs.declared.Stage.the-variants.{Key, Value}
 use Rattle.image.specs.declared.Examined.{Examined}
@@ -26,13 +29,13 @@ use Rattle.edit.specs.Edits.{find, noRoom, storeImage}
 use Rattle.edit.specs.Replaced.{Storable}
 use Rattle.chronicle_map.specs.declared.Answer.the-variants as answer
 use Rattle.chronicle_map.specs.Asked.{Given, aKey, anEntry, GivenKeyFits, givenKeyFits?, GivenValueFits, givenValueFits?, afterValue, afterKey, afterExamined, asked}
-use Rattle.chronicle_map.specs.Calls.{numberOf, fromFind, lookedUp, lookup, lookupNumbers, recordAt, recordLength, recordBytes, Edited, answerNumber, removeFound, removing, remove, storeUnless, storing, store}
-use Rattle.chronicle_map.specs.History.{Call, looksUp, stores, removes, Said, says, leaves, row10, Map, hasKey, mapOf, mapGet, mapSet, mapDrop, Recalled, mapLookup, mapRemove, mapStore, unlessValue, unlessKey, unless, recall}
+use Rattle.chronicle_map.specs.Calls.{numberOf, fromFind, lookedUp, lookup, lookupNumbers, recordAt, recordLength, recordBytes, Edited, answerNumber, removeFound, removing, remove, storeUnless, storing, store, growUnless, growing, grow}
+use Rattle.chronicle_map.specs.History.{Call, looksUp, stores, removes, grows, Said, says, leaves, toldOf, Map, hasKey, mapOf, mapGet, mapSet, mapDrop, Recalled, mapLookup, mapRemove, mapStore, mapGrow, unlessValue, unlessKey, unless, recall}
 use Rattle.edit.proofs.Without.{remove-sound, remove-pairs}
 use Rattle.edit.proofs.Stored.{store-sound, store-pairs}
 use Rattle.chronicle_map.specs.Demands.{ByteCall, shape}
 use Rattle.chronicle_map.proofs.Weights.{Weigh, weigh-those}
-use Rattle.chronicle_map.proofs.Accepting.{Holds, holds-ready, holds-again, map-again}
+use Rattle.chronicle_map.proofs.Accepting.{Holds, holds-ready, holds-by, map-by, holds-again, map-again}
 use Rattle.chronicle_map.proofs.Mapping.{map-found, map-none}
 
 -- what the refusals are, once the image is accepted
@@ -163,15 +166,29 @@ module _ (block img : List ℕ) (h : Holds block img) (m : Map) (w : Weigh (mapO
     store-agrees (no n) b e = record { said = refl; holds = h; weighs = w }
     store-agrees (yes k) b e = store-value k (givenValueFits? (z .settings) (anEntry key value)) b e
 
+  -- one bulk more: the map stays
+  grow-agrees : (b : Bool) → noBulk z (length img) ≡ b → Agrees (growUnless z img b) (mapGrow m b)
+  unfolding growUnless mapGrow
+  grow-agrees true e = record { said = refl; holds = h; weighs = w }
+  grow-agrees false e =
+      let after : SoundImage (grown z) (growImage z img) = grow-sound z img (h .sound) e in
+      record {
+        said = refl;
+        holds = holds-by (h .blockFits) (shape-settings (settingsOf block) img) after;
+        weighs =
+            subst (λ (l : List Pair). Weigh l m)
+            (sym (grow-pairs z img (h .sound) e) ∙ map-by (h .blockFits) (shape-settings (settingsOf block) img) after) w;
+      }
+
   -- ---- any call
 
   pub record Step (c : Call) : Type 0 where
-    pub said : says block img c ≡ recall (settingsOf block) m c (row10 block img c) .said
+    pub said : says block img c ≡ recall (settingsOf block) m c (toldOf block img c) .said
     pub holds : Holds block (leaves block img c)
-    pub weighs : Weigh (mapOf block (leaves block img c)) (recall (settingsOf block) m c (row10 block img c) .map)
+    pub weighs : Weigh (mapOf block (leaves block img c)) (recall (settingsOf block) m c (toldOf block img c) .map)
 
   pub step : (c : Call) → ByteCall c → Step c
-  unfolding says leaves row10 recall unless lookup remove store shapeOf
+  unfolding says leaves toldOf recall unless lookup remove store growing grow shapeOf
   step (looksUp key) b =
       record {
         said = rw (asked-holds block img h (aKey key)) (lookup-said key (givenKeyFits? (z .settings) (aKey key)));
@@ -181,6 +198,9 @@ module _ (block img : List ℕ) (h : Holds block img) (m : Map) (w : Weigh (mapO
   step (removes key) b =
       let a : Agrees (remove block img key) (unless (z .settings) (aKey key) m (mapRemove m key (mapGet m key))) =
       rw (asked-holds block img h (aKey key)) (remove-agrees key (givenKeyFits? (z .settings) (aKey key))) in
+      record { said = a .said; holds = a .holds; weighs = a .weighs }
+  step grows b =
+      let a : Agrees (grow block img) (mapGrow m (noBulk z (length img))) = rw (holds-ready block img h) (grow-agrees (noBulk z (length img)) refl) in
       record { said = a .said; holds = a .holds; weighs = a .weighs }
   step (stores policy key value) b =
       let a : Agrees (store policy block img key value) (unless (z .settings) (anEntry key value) m (mapStore m key value (noRoom z img key value))) =

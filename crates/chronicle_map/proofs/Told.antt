@@ -25,43 +25,43 @@ stages : List Stage
 stages = Block ∷ Field ∷ Frame ∷ Chains ∷ Entries ∷ Chunks ∷ Key ∷ Value ∷ []
 
 module _ {A : Type 0} (refused : Stage → A) where
-  -- the answers with numbers 1 to 10
-  abbrev numbered : A → A → ℕ → A
-  numbered one ten n = getD (one ∷ one ∷ (map refused stages ++ (ten ∷ []))) n one
+  -- the answers with numbers 1 to 9, and those from 10 on
+  abbrev numbered : A → List A → ℕ → A
+  numbered one more n = getD (one ∷ one ∷ (map refused stages ++ more)) n one
 
-  stage-numbered : (one ten : A) (s : Stage) → numbered one ten (stageNumber s) ≡ refused s
+  stage-numbered : (one : A) (more : List A) (s : Stage) → numbered one more (stageNumber s) ≡ refused s
   unfolding stages
-  stage-numbered one ten Block = refl
-  stage-numbered one ten Field = refl
-  stage-numbered one ten Frame = refl
-  stage-numbered one ten Chains = refl
-  stage-numbered one ten Entries = refl
-  stage-numbered one ten Chunks = refl
-  stage-numbered one ten Key = refl
-  stage-numbered one ten Value = refl
+  stage-numbered one more Block = refl
+  stage-numbered one more Field = refl
+  stage-numbered one more Frame = refl
+  stage-numbered one more Chains = refl
+  stage-numbered one more Entries = refl
+  stage-numbered one more Chunks = refl
+  stage-numbered one more Key = refl
+  stage-numbered one more Value = refl
 
 tells-by : {A : Type 0} (number : A → ℕ) (of : ℕ → A) → ((a : A) → number a ≢ 0 → of (number a) ≡ a) → Tells number
 tells-by number of back a b ne e = sym (back a ne) ∙ ap of e ∙ back b (λ z. ne (e ∙ z))
 
 pub stages-told : Tells stageNumber
-stages-told = tells-by stageNumber (numbered (λ s. s) Block Block) (λ s ne. stage-numbered (λ s. s) Block Block s)
+stages-told = tells-by stageNumber (numbered (λ s. s) Block []) (λ s ne. stage-numbered (λ s. s) Block [] s)
 
 pub checks-told : Tells (λ (v : Outcome). numberOf (outcomeNumbers v))
-checks-told = tells-by _ (numbered outcome.Refused (outcome.Refused Block) (outcome.Refused Block)) back
+checks-told = tells-by _ (numbered outcome.Refused (outcome.Refused Block) []) back
   where
     back : (v : Outcome) → numberOf (outcomeNumbers v) ≢ 0
-        → numbered outcome.Refused (outcome.Refused Block) (outcome.Refused Block) (numberOf (outcomeNumbers v)) ≡ v
+        → numbered outcome.Refused (outcome.Refused Block) [] (numberOf (outcomeNumbers v)) ≡ v
     back (outcome.Accepted c) ne = absurd (ne refl)
     back (outcome.Refused s) ne = stage-numbered outcome.Refused _ _ s
 
 pub lists-told : Tells (λ (l : Listed). numberOf (listedNumbers l))
 unfolding stages
-lists-told = tells-by _ (numbered listed.Refused listed.Past listed.Past) back
+lists-told = tells-by _ (numbered listed.Refused listed.Past []) back
   where
-    back : (l : Listed) → numberOf (listedNumbers l) ≢ 0 → numbered listed.Refused listed.Past listed.Past (numberOf (listedNumbers l)) ≡ l
+    back : (l : Listed) → numberOf (listedNumbers l) ≢ 0 → numbered listed.Refused listed.Past [] (numberOf (listedNumbers l)) ≡ l
     back (listed.Row e) ne = absurd (ne refl)
     back listed.Past ne = refl
-    back (listed.Refused s) ne = stage-numbered listed.Refused _ _ s
+    back (listed.Refused s) ne = stage-numbered listed.Refused listed.Past [] s
 
 pub lookups-told : (a b : Located) → numberOf (lookupNumbers a) ≢ 0 → numberOf (lookupNumbers a) ≡ numberOf (lookupNumbers b)
     → (a ≡ b) ⊎ (IsAbsent a × IsAbsent b)
@@ -73,12 +73,17 @@ lookups-told (looked.Refused s) (looked.Found p) ne e = absurd (ne e)
 lookups-told (looked.Refused s) (looked.Absent x) ne e = absurd (omega (arith, stage-least s))
 lookups-told (looked.Refused s) (looked.Refused r) ne e = inl (ap looked.Refused (stages-told s r ne e))
 
+-- 10 and 13
+abbrev late : List Answer
+late = answer.Full ∷ answer.Absent ∷ answer.Absent ∷ answer.NoBulk ∷ []
+
 pub edits-told : Tells answerNumber
 unfolding stages
-edits-told = tells-by _ (numbered answer.Refused answer.Absent answer.Full) back
+edits-told = tells-by _ (numbered answer.Refused answer.Absent late) back
   where
-    back : (a : Answer) → answerNumber a ≢ 0 → numbered answer.Refused answer.Absent answer.Full (answerNumber a) ≡ a
+    back : (a : Answer) → answerNumber a ≢ 0 → numbered answer.Refused answer.Absent late (answerNumber a) ≡ a
     back answer.Done ne = absurd (ne refl)
     back answer.Absent ne = refl
     back answer.Full ne = refl
-    back (answer.Refused s) ne = stage-numbered answer.Refused _ _ s
+    back answer.NoBulk ne = refl
+    back (answer.Refused s) ne = stage-numbered answer.Refused answer.Absent late s

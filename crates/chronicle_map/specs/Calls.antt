@@ -4,7 +4,7 @@ use mathlib.Core.List.{List, [], _∷_}
 use mathlib.Core.Path.{_≡_}
 use mathlib.Core.Bool.{Bool, true, false}
 use mathlib.Core.Option.{Option, none, some}
-use lib.ListN.{getD}
+use lib.ListN.{length, getD}
 use denote.Ref.{RefT, now}
 use Rattle.words.specs.Bytes.{cut}
 use Rattle.chains.specs.Chains.{lastTier}
@@ -14,7 +14,8 @@ use Rattle.layout.specs.declared.Shape.{Shape}
 use Rattle.search.specs.Search.{firstEmpty}
 use Rattle.image.specs.declared.Examined.{Examined}
 use Rattle.image.specs.declared.Examined.the-variants.{Ready, Refused}
-use Rattle.image.specs.Check.{stageNumber}
+use Rattle.image.specs.Check.{stageNumber, examine}
+use Rattle.growing.specs.Growing.{noBulk, growImage}
 use Rattle.edit.specs.declared.Policy.{Policy}
 use Rattle.edit.specs.Edits.{find, removeImage, noRoom, storeImage}
 use Rattle.chronicle_map.specs.declared.RecordPlace.{RecordPlace}
@@ -93,6 +94,7 @@ abbrev pub answerNumber : Answer → ℕ
 answerNumber answer.Done = 0
 answerNumber answer.Absent = 1
 answerNumber answer.Full = 10
+answerNumber answer.NoBulk = 13
 answerNumber (answer.Refused s) = stageNumber s
 
 -- where the key is, its entry is removed
@@ -118,3 +120,15 @@ storing policy img key value (Ready z c) = storeUnless policy z img key value (n
 
 unfoldable pub store : Policy → List ℕ → List ℕ → List ℕ → List ℕ → Edited
 store policy block img key value = storing policy img key value (asked block img (anEntry key value))
+
+-- one bulk more, where there is room for it: 13 comes after 2 to 7
+unfoldable pub growUnless : Shape → List ℕ → Bool → Edited
+growUnless z img true = record { answer = answer.NoBulk; image = img }
+growUnless z img false = record { answer = answer.Done; image = growImage z img }
+
+unfoldable pub growing : List ℕ → Examined → Edited
+growing img (Refused s) = record { answer = answer.Refused s; image = img }
+growing img (Ready z c) = growUnless z img (noBulk z (length img))
+
+unfoldable pub grow : List ℕ → List ℕ → Edited
+grow block img = growing img (examine block img)

@@ -1,21 +1,21 @@
 -- What is claimed of the calls: demands 1 and 2 for one call, demand 3 for a whole list of them.
-use Prim.Native.Nat.{ℕ, _≤_, _<_}
+use Prim.Native.Nat.{ℕ, suc, _*_, _/_, _≤_, _<_}
 use mathlib.Core.List.{List, [], _∷_, _++_, List·Memᴰ}
 use mathlib.Core.Path.{_≡_}
 use mathlib.Core.Logic.{_≢_, _⊎_}
-use mathlib.Core.Bool.{Bool, false, _&&_}
+use mathlib.Core.Bool.{Bool, true, false, _&&_}
 use mathlib.Core.Option.{Option, none, some}
 use lib.Dec.{eqb}
 use lib.ListN.{length, getD, take, drop, replicate}
-use Rattle.lists.specs.Lists.{howMany, total}
+use Rattle.lists.specs.Lists.{span, howMany, total}
 use Rattle.lists.specs.Quantify.{Below}
 use Rattle.words.specs.Bytes.{Bytes, cut, Apart}
 use Rattle.leb128.specs.Leb128.{encode}
 use Rattle.settings.specs.declared.Settings.{Settings}
 use Rattle.settings.specs.Block.{BlockFits, settingsOf}
 use Rattle.layout.specs.declared.Shape.{Shape}
-use Rattle.layout.specs.Tiers.{IsExtra}
-use Rattle.layout.specs.Places.{mark, chunkAt}
+use Rattle.layout.specs.Tiers.{tiers, IsExtra}
+use Rattle.layout.specs.Places.{Place, at, wide, mark, chunkAt}
 use Rattle.layout.specs.Frame.{shapeOf}
 use Rattle.chains.specs.Chains.{chain, lastTier, chained, chainedExtra, freeChain}
 use Rattle.probe.specs.Ring.{dist}
@@ -27,6 +27,7 @@ use Rattle.chunks.specs.Chunks.{covers}
 use Rattle.entries.specs.Pairs.{Pair, pairOf}
 use Rattle.sound.specs.Sound.{ImageFits}
 use Rattle.counters.specs.LowMarks.{LowMarks}
+use Rattle.growing.specs.Growing.{grown, noBulk, IsNew, GrowWrites}
 use Rattle.edit.specs.declared.Policy.{Policy}
 use Rattle.edit.specs.declared.Policy.the-variants.{OnTheSpot, Tight}
 use Rattle.edit.specs.Edits.{removeTiers, storeTiers}
@@ -39,8 +40,8 @@ use Rattle.image.specs.List.{entry, listedNumbers}
 use Rattle.chronicle_map.specs.declared.SearchEnd.{SearchEnd}
 use Rattle.chronicle_map.specs.declared.Located.{Located}
 use Rattle.chronicle_map.specs.declared.Located.the-variants as looked
-use Rattle.chronicle_map.specs.Calls.{numberOf, placeOf, searchEnd, lookup, lookupNumbers, recordAt, recordLength, answerNumber, remove, store}
-use Rattle.chronicle_map.specs.History.{Call, looksUp, stores, removes, Map, hasKey, mapOf, mapGet, row10, run, answers, told, mapAnswers, mapAfter}
+use Rattle.chronicle_map.specs.Calls.{numberOf, placeOf, searchEnd, lookup, lookupNumbers, recordAt, recordLength, answerNumber, remove, store, grow}
+use Rattle.chronicle_map.specs.History.{Call, looksUp, stores, removes, grows, Map, hasKey, mapOf, mapGet, toldOf, run, answers, told, mapAnswers, mapAfter}
 
 -- ---- demand 1, for every block, image, key and record
 
@@ -91,6 +92,7 @@ pub record Demand1 (block img : List ℕ) : Type 0 where
       → Answers (0 ∷ 1 ∷ 2 ∷ 3 ∷ 4 ∷ 5 ∷ 6 ∷ 7 ∷ 8 ∷ []) (answerNumber (remove block img key .answer) ∷ [])
   pub storeAnswers : (policy : Policy) (key value : List ℕ)
       → Answers (0 ∷ 2 ∷ 3 ∷ 4 ∷ 5 ∷ 6 ∷ 7 ∷ 8 ∷ 9 ∷ 10 ∷ []) (answerNumber (store policy block img key value .answer) ∷ [])
+  pub growAnswers : Answers (0 ∷ 2 ∷ 3 ∷ 4 ∷ 5 ∷ 6 ∷ 7 ∷ 13 ∷ []) (answerNumber (grow block img .answer) ∷ [])
   -- without a record, the part that `record` answers is the empty one at offset 0
   pub noRecord : (key : List ℕ) → numberOf (lookupNumbers (lookup block img key)) ≢ 0
       → (recordAt (lookup block img key) ≡ 0) × (recordLength (lookup block img key) ≡ 0)
@@ -98,6 +100,7 @@ pub record Demand1 (block img : List ℕ) : Type 0 where
   pub removalRefused : (key : List ℕ) → answerNumber (remove block img key .answer) ≢ 0 → remove block img key .image ≡ img
   pub storeRefused : (policy : Policy) (key value : List ℕ) → answerNumber (store policy block img key value .answer) ≢ 0
       → store policy block img key value .image ≡ img
+  pub growRefused : answerNumber (grow block img .answer) ≢ 0 → grow block img .image ≡ img
   -- each refusal has a number of its own; two absent keys share theirs, wherever the searches ended
   pub stagesTold : Tells stageNumber
   pub checksTold : Tells (λ (v : Outcome). numberOf (outcomeNumbers v))
@@ -117,6 +120,7 @@ abbrev pub ByteCall : Call → Type 0
 ByteCall (looksUp key) = Bytes key
 ByteCall (stores policy key value) = Bytes key × Bytes value
 ByteCall (removes key) = Bytes key
+ByteCall grows = Unit {0}
 
 abbrev pub ByteCalls : List Call → Type 0
 ByteCalls [] = Unit {0}
@@ -201,12 +205,39 @@ module _ (block img key value : List ℕ) (e : Live) where
 pub record Replacements (block img : List ℕ) : Type 0 where
   -- the row of 10 never holds where the new entry takes as many chunks as the old one, or fewer; so neither kind answers 10
   pub neverRow10 : (policy : Policy) (e : Live) → List·Memᴰ e (live (shape block img) img) → (key value : List ℕ) → keyOf img (e .entry) ≡ key
-      → chunksFor (settingsOf block) (length key) (length value) ≤ e .chunks → row10 block img (stores policy key value) ≡ false
+      → chunksFor (settingsOf block) (length key) (length value) ≤ e .chunks → toldOf block img (stores policy key value) ≡ false
   pub neverFull : (policy : Policy) (e : Live) → List·Memᴰ e (live (shape block img) img) → (key value : List ℕ) → keyOf img (e .entry) ≡ key
       → chunksFor (settingsOf block) (length key) (length value) ≤ e .chunks → answerNumber (store policy block img key value .answer) ≢ 10
   pub sameSize : (e : Live) → List·Memᴰ e (live (shape block img) img) → (key value : List ℕ) → keyOf img (e .entry) ≡ key
       → Bytes key → Bytes value → length value ≤ longestValue → chunksFor (settingsOf block) (length key) (length value) ≡ e .chunks
       → SameSize block img key value e
+
+-- ---- request A4, for an accepted image: one bulk more
+
+-- what a grow answered 0 leaves
+pub record Grown (block img after : List ℕ) : Type 0 where
+  -- it reads as the same map, and every lookup answers as before, tier and slot included
+  pub accepted : Accepted block after
+  pub sameMap : mapOf block after ≡ mapOf block img
+  pub lookups : (key : List ℕ) → lookup block after key ≡ lookup block img key
+  -- there is one bulk more; the segments' chains stay, and the free tiers are the new ones in ascending order, then the old ones
+  pub oneMore : shape block after ≡ grown (shape block img)
+  pub sameChains : Below (settingsOf block .segments) (λ s. chain (shape block after) after s ≡ chain (shape block img) img s)
+  pub freeTiers : freeChain (shape block after) after
+      ≡ span (suc (tiers (shape block img))) (settingsOf block .bulkTiers) ++ freeChain (shape block img) img
+  -- every byte stays but those of the places that are written, and of their bytes with marks the bits from N on
+  pub bytesKept : (i : ℕ) → ((p : Place) → GrowWrites (shape block img) p → Apart i 1 (at (shape block after) p) (wide (shape block after) p))
+      → getD after i 0 ≡ getD img i 0
+  pub bitsKept : (t i : ℕ) → IsNew (shape block img) t → settingsOf block .chunks ≤ i → 8 * (i / 8) < settingsOf block .chunks
+      → mark (shape block after) after t i ≡ mark (shape block after) img t i
+  -- the next store is not answered 10
+  pub notFull : (policy : Policy) (key value : List ℕ) → answerNumber (store policy block after key value .answer) ≢ 10
+
+pub record Growth (block img : List ℕ) : Type 0 where
+  -- 13 is answered exactly where there is no room for the bulk, and else 0
+  pub refused : noBulk (shape block img) (length img) ≡ true → answerNumber (grow block img .answer) ≡ 13
+  pub done : noBulk (shape block img) (length img) ≡ false → answerNumber (grow block img .answer) ≡ 0
+  pub grown : answerNumber (grow block img .answer) ≡ 0 → Grown block img (grow block img .image)
 
 -- ---- demand 3, for an accepted image and any list of calls
 

@@ -3,6 +3,7 @@ use Prim.Native.Nat.{ℕ}
 use mathlib.Core.List.{List, [], _∷_}
 use mathlib.Core.Bool.{Bool, true, false, not}
 use mathlib.Core.Option.{Option, none, some}
+use lib.ListN.{length}
 use Rattle.lists.specs.Decide.{choose}
 use Rattle.lists.specs.Lists.{first, those}
 use Rattle.words.specs.Bytes.{same}
@@ -10,15 +11,17 @@ use Rattle.settings.specs.declared.Settings.{Settings}
 use Rattle.settings.specs.Block.{settingsOf}
 use Rattle.layout.specs.Frame.{shapeOf}
 use Rattle.entries.specs.Pairs.{Pair, pairsOf}
+use Rattle.growing.specs.Growing.{noBulk}
 use Rattle.edit.specs.declared.Policy.{Policy}
 use Rattle.edit.specs.Edits.{noRoom}
 use Rattle.chronicle_map.specs.Asked.{Given, aKey, anEntry, GivenKeyFits, givenKeyFits?, GivenValueFits, givenValueFits?}
-use Rattle.chronicle_map.specs.Calls.{numberOf, lookup, lookupNumbers, recordBytes, remove, store, answerNumber}
+use Rattle.chronicle_map.specs.Calls.{numberOf, lookup, lookupNumbers, recordBytes, remove, store, grow, answerNumber}
 
 pub data Call : Type 0 where
   looksUp : List ℕ → Call
   stores : Policy → List ℕ → List ℕ → Call
   removes : List ℕ → Call
+  grows : Call
 
 -- the number, and a lookup's record (empty where there is none)
 pub record Said : Type 0 where
@@ -33,17 +36,20 @@ module _ (block : List ℕ) where
   says img (looksUp key) = record { number = numberOf (lookupNumbers (lookup block img key)); bytes = recordBytes img (lookup block img key) }
   says img (stores policy key value) = record { number = answerNumber (store policy block img key value .answer); bytes = [] }
   says img (removes key) = record { number = answerNumber (remove block img key .answer); bytes = [] }
+  says img grows = record { number = answerNumber (grow block img .answer); bytes = [] }
 
   unfoldable pub leaves : List ℕ → Call → List ℕ
   leaves img (looksUp key) = img
   leaves img (stores policy key value) = store policy block img key value .image
   leaves img (removes key) = remove block img key .image
+  leaves img grows = grow block img .image
 
-  -- whether the row of 10 holds for the image that a store gets
-  unfoldable pub row10 : List ℕ → Call → Bool
-  row10 img (looksUp key) = false
-  row10 img (stores policy key value) = noRoom (shapeOf (settingsOf block) img) img key value
-  row10 img (removes key) = false
+  -- what the map is told of a call: whether the row of 10 holds for the image that a store gets, and whether 13 applies to a grow
+  unfoldable pub toldOf : List ℕ → Call → Bool
+  toldOf img (looksUp key) = false
+  toldOf img (stores policy key value) = noRoom (shapeOf (settingsOf block) img) img key value
+  toldOf img (removes key) = false
+  toldOf img grows = noBulk (shapeOf (settingsOf block) img) (length img)
 
   -- a list of calls, each on the image as the last one left it
   unfoldable pub run : List ℕ → List Call → List ℕ
@@ -54,10 +60,10 @@ module _ (block : List ℕ) where
   answers img [] = []
   answers img (c ∷ cs) = says img c ∷ answers (leaves img c) cs
 
-  -- what the map is told: for each call, whether the row of 10 held
+  -- the same of each call
   unfoldable pub told : List ℕ → List Call → List Bool
   told img [] = []
-  told img (c ∷ cs) = row10 img c ∷ told (leaves img c) cs
+  told img (c ∷ cs) = toldOf img c ∷ told (leaves img c) cs
 
 -- ---- the map
 
@@ -100,6 +106,10 @@ unfoldable pub mapStore : Map → List ℕ → List ℕ → Bool → Recalled
 mapStore m key value true = saying 10 [] m
 mapStore m key value false = saying 0 [] (mapSet m key value)
 
+unfoldable pub mapGrow : Map → Bool → Recalled
+mapGrow m true = saying 13 [] m
+mapGrow m false = saying 0 [] m
+
 -- where 8 or 9 applies, the lower is answered and the map stays
 unfoldable pub unlessValue : (st : Settings) (g : Given) → Map → Recalled → Dec (GivenValueFits st g) → Recalled
 unlessValue st g m r d = choose d (λ _. saying 9 [] m) (λ _. r)
@@ -114,6 +124,7 @@ unfoldable pub recall : Settings → Map → Call → Bool → Recalled
 recall st m (looksUp key) row = unless st (aKey key) m (mapLookup m (mapGet m key))
 recall st m (stores policy key value) row = unless st (anEntry key value) m (mapStore m key value row)
 recall st m (removes key) row = unless st (aKey key) m (mapRemove m key (mapGet m key))
+recall st m grows row = mapGrow m row
 
 -- fed a list of calls, each with what it is told
 unfoldable pub mapAnswers : Settings → Map → List Call → List Bool → List Said

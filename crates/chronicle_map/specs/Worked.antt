@@ -13,7 +13,7 @@ use Rattle.image.specs.List.{entry, listedNumbers}
 use Rattle.edit.specs.declared.Policy.{Policy}
 use Rattle.edit.specs.declared.Policy.the-variants.{OnTheSpot, Tight}
 use Rattle.chronicle_map.specs.Calls.{lookup, lookupNumbers, recordBytes}
-use Rattle.chronicle_map.specs.History.{Call, stores, removes, Said, run, answers}
+use Rattle.chronicle_map.specs.History.{Call, stores, removes, grows, Said, run, answers}
 
 unfoldable pub blockX : List ℕ
 blockX = blockWith 1 fieldsX
@@ -100,6 +100,14 @@ threeChunks = stores OnTheSpot (pair 3 1) (replicate 20 0) ∷ []
 
 abbrev pub later : List Call
 later = threeChunks ++ (stores OnTheSpot (pair 1 3) (replicate 28 0) ∷ [])
+
+-- X with n further bytes, all FF; one bulk takes 200
+abbrev pub longX : ℕ → List ℕ
+longX n = imageX ++ replicate n 255
+
+-- calls that fill both tiers of X, and then a record that finds no room
+abbrev pub grown6 : List Call
+grown6 = after6 ++ (grows ∷ stores OnTheSpot (pair 6 1) (four 61) ∷ [])
 
 -- ---- a case: calls made on an image, then a question, and what is due
 
@@ -262,4 +270,26 @@ cases =
     ∷ case smallX (replaced OnTheSpot ++ later) (bytes 224 1) (60 ∷ [])
     ∷ case smallX (replaced Tight ++ later) (bytes 224 1) (255 ∷ [])
     ∷ case smallX (replaced Tight ++ later) (bytes 76 4) (8 ∷ 0 ∷ 0 ∷ 0 ∷ [])
+    -- A4: no room for the bulk in X, nor where one byte is missing
+    ∷ case imageX (grows ∷ []) answered (13 ∷ [])
+    ∷ case (longX 199) (grows ∷ []) answered (13 ∷ [])
+    ∷ case (longX 199) [] (changes (grows ∷ [])) []
+    -- with room: bulk count, first free tier and store size; used stays 0
+    ∷ case (longX 200) (grows ∷ []) answered (0 ∷ [])
+    ∷ case (longX 200) (grows ∷ []) (bytes 8 25)
+    (2 ∷ 0 ∷ 0 ∷ 3 ∷ 0 ∷ 0 ∷ 0 ∷ 0 ∷ 0 ∷ 0 ∷ 0 ∷ 0 ∷ 0 ∷ 64 ∷ 0 ∷ 0 ∷ 0 ∷ 184 ∷ 2 ∷ 0 ∷ 0 ∷ 0 ∷ 0 ∷ 0 ∷ 0 ∷ [])
+    -- the slots of tier 3, its next, its counters 8..35, its free list; the gap, counters 36..63 and the chunks stay
+    ∷ case (longX 200) (grows ∷ []) (bytes 496 64) (replicate 16 0 ++ replicate 48 255)
+    ∷ case (longX 200) (grows ∷ []) (bytes 560 64) ((2 ∷ replicate 7 0) ++ replicate 28 0 ++ replicate 28 255)
+    ∷ case (longX 200) (grows ∷ []) (bytes 624 72) (0 ∷ replicate 71 255)
+    -- and 33..495 stay: 16, 8, 28 and 1 bytes of the bulk change, and before it 8, 11, 25 and 26
+    ∷ case (longX 200) (grows ∷ []) (bytes 33 463) (cut imageX 33 463)
+    ∷ case (longX 200) (grows ∷ []) checks (0 ∷ 0 ∷ 0 ∷ 1 ∷ 2 ∷ [])
+    ∷ case (longX 200) (grows ∷ grows ∷ []) answered (0 ∷ 13 ∷ [])
+    -- a full store, grown, takes the record that found no room
+    ∷ case (longX 200) grown6 answered (0 ∷ 0 ∷ 0 ∷ 0 ∷ 0 ∷ 0 ∷ 10 ∷ 0 ∷ 0 ∷ [])
+    ∷ case (longX 200) grown6 (finds (pair 6 1)) (0 ∷ 636 ∷ 4 ∷ 3 ∷ 1 ∷ four 61)
+    ∷ case (longX 200) grown6 checks (0 ∷ 7 ∷ 7 ∷ 3 ∷ 0 ∷ [])
+    -- 13 comes after 7
+    ∷ case (putLe imageX 224 1 1) (grows ∷ []) answered (7 ∷ [])
     ∷ []

@@ -13,13 +13,14 @@ ghost use lib.ListN.{length};
 ghost use Rattle.entries.specs.Keys.{KeyFits};
 ghost use Rattle.entries.specs.Stored.{ValueFits};
 ghost use Rattle.sound.specs.Sound.{SoundImage};
+ghost use Rattle.growing.specs.Growing.{noBulk};
 ghost use Rattle.edit.specs.declared.Policy.the-variants.{OnTheSpot, Tight};
 ghost use Rattle.edit.specs.Edits.{find, noRoom};
 ghost use Rattle.edit.specs.Replaced.{Storable};
 ghost use Rattle.image.specs.Check.{check as Check·check};
 ghost use Rattle.image.specs.List.{entry as List·entry};
 ghost use Rattle.chronicle_map.specs.Asked.{aKey, anEntry, asked};
-ghost use Rattle.chronicle_map.specs.Calls.{fromFind, lookup as Calls·lookup, RecordOf, Edited, removeFound, remove as Calls·remove, storeUnless, store as Calls·store};
+ghost use Rattle.chronicle_map.specs.Calls.{fromFind, lookup as Calls·lookup, RecordOf, Edited, removeFound, remove as Calls·remove, storeUnless, store as Calls·store, growUnless, grow as Calls·grow};
 
 // Where a record stands: its offset in the image, its length, and the tier and slot of its entry.
 pub struct RecordPlace {
@@ -42,11 +43,12 @@ pub enum Located {
     Refused(Stage),
 }
 
-// An edit's answer: done; no such key; no tier takes the entry; a refusal.
+// An edit's answer: done; no such key; no tier takes the entry; no room for one more bulk; a refusal.
 pub enum Answer {
     Done,
     Absent,
     Full,
+    NoBulk,
     Refused(Stage),
 }
 
@@ -196,4 +198,27 @@ pub fn store_tight(block: &[u8], img: &mut [u8], key: &[u8], value: &[u8]) -> An
         ≡ Calls·store Tight (now (block .entry)) (now (img .entry)) (now (key .entry)) (now (value .entry)) ⌝ }
 {
     store_by(block, img, key, value, Policy::Tight)
+}
+
+// Adds one bulk to an accepted image, where there is room for it.
+fn grow_accepted(z: Shape, img: &mut [u8]) -> Answer
+    requires { ⌜ SoundImage z (now img) ⌝ }
+    ensures { λ r. ⌜ record { answer = r; image = now (img .exit) }
+        ≡ growUnless z (now (img .entry)) (noBulk z (length (now (img .entry)))) ⌝ }
+{
+    if growing::no_bulk(z, img) {
+        return Answer::NoBulk;
+    }
+    growing::grow(z, img);
+    Answer::Done
+}
+
+// Adds one bulk after the last: its tiers are emptied and become the first free ones. The map stays as it is.
+pub fn grow(block: &[u8], img: &mut [u8]) -> Answer
+    ensures { λ r. ⌜ record { answer = r; image = now (img .exit) } ≡ Calls·grow (now (block .entry)) (now (img .entry)) ⌝ }
+{
+    match image::examine(block, img) {
+        Examined::Refused(stage) => Answer::Refused(stage),
+        Examined::Ready(z, _) => grow_accepted(z, img),
+    }
 }

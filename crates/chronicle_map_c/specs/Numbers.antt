@@ -5,7 +5,7 @@ use lib.IntN.{ℤ}
 use Rattle.image.specs.Check.{check, verdictNumbers}
 use Rattle.image.specs.List.{entry, listedNumbers}
 use Rattle.edit.specs.declared.Policy.{Policy}
-use Rattle.chronicle_map.specs.Calls.{lookup, lookupNumbers, answerNumber, store, remove}
+use Rattle.chronicle_map.specs.Calls.{lookup, lookupNumbers, answerNumber, store, remove, grow}
 use Rattle.pairs.specs.Delays.{delay, Reply, askedReply, setDelay, setNumber}
 
 -- ---- the number that is returned, then those of the out array
@@ -36,6 +36,12 @@ removeAnswer block img key = answerNumber (remove block img key .answer)
 
 abbrev pub removeLeaves : List ℕ → List ℕ → List ℕ → List ℕ
 removeLeaves block img key = remove block img key .image
+
+abbrev pub growAnswer : List ℕ → List ℕ → ℕ
+growAnswer block img = answerNumber (grow block img .answer)
+
+abbrev pub growLeaves : List ℕ → List ℕ → List ℕ
+growLeaves block img = grow block img .image
 
 abbrev pub setDelayAnswer : List ℕ → List ℕ → ℕ → ℕ → ℤ → ℕ
 setDelayAnswer block img a b d = setNumber (setDelay block img a b d .answer)

@@ -14,7 +14,7 @@ ghost use Rattle.xxh64.specs.Hash.{xxh64 as Hash·xxh64};
 ghost use Rattle.edit.specs.declared.Policy.the-variants.{OnTheSpot, Tight};
 ghost use Rattle.chronicle_map.specs.Calls.{answerNumber};
 ghost use Rattle.pairs.specs.Delays.{Reply, setNumber};
-ghost use Rattle.chronicle_map_c.specs.Numbers.{checkAnswer, lookupAnswer, entryAnswer, delayAnswer, storeAnswer, storeLeaves, removeAnswer, removeLeaves, setDelayAnswer, setDelayLeaves};
+ghost use Rattle.chronicle_map_c.specs.Numbers.{checkAnswer, lookupAnswer, entryAnswer, delayAnswer, storeAnswer, storeLeaves, removeAnswer, removeLeaves, growAnswer, growLeaves, setDelayAnswer, setDelayLeaves};
 
 fn answer_number(answer: Answer) -> u32
     ensures { λ r. ⌜ r ≡ answerNumber answer ⌝ }
@@ -23,6 +23,7 @@ fn answer_number(answer: Answer) -> u32
         Answer::Done => 0,
         Answer::Absent => 1,
         Answer::Full => 10,
+        Answer::NoBulk => 13,
         Answer::Refused(stage) => stage_number(stage),
     }
 }
@@ -123,6 +124,15 @@ pub extern "C" fn chronicle_map_remove(block: &[u8], img: &mut [u8], key: &[u8])
     ensures { λ _. ⌜ now (img .exit) ≡ removeLeaves (now (block .entry)) (now (img .entry)) (now (key .entry)) ⌝ }
 {
     answer_number(chronicle_map::remove(block, img, key))
+}
+
+// Adds one bulk after the last; its tiers become the first free ones.
+#[no_mangle]
+pub extern "C" fn chronicle_map_grow(block: &[u8], img: &mut [u8]) -> u32
+    ensures { λ r. ⌜ r ≡ growAnswer (now (block .entry)) (now (img .entry)) ⌝ }
+    ensures { λ _. ⌜ now (img .exit) ≡ growLeaves (now (block .entry)) (now (img .entry)) ⌝ }
+{
+    answer_number(chronicle_map::grow(block, img))
 }
 
 // The n-th live entry, n from 0. The array: the seven numbers of a lister line.

@@ -13,10 +13,10 @@ use Rattle.chunks.proofs.Marks.{lowest-few, below-lowest}
 pub low-mark-exact : {z : Shape} {img : List ℕ} {t : ℕ} → lowField z img t ≡ lowestClear z img t → LowMarkFits z img t
 low-mark-exact e = record { noneBelow = omega (arith, e); whenFull = λ full. e ∙ full }
 
-pub low-mark-same : {z : Shape} {img img′ : List ℕ} {t : ℕ} → lowField z img′ t ≡ lowField z img t
-    → lowestClear z img′ t ≡ lowestClear z img t → LowMarkFits z img t → LowMarkFits z img′ t
-low-mark-same field bits f =
-    record { noneBelow = omega (arith, field, bits, f .noneBelow); whenFull = λ full. field ∙ f .whenFull (sym bits ∙ full) }
+pub low-mark-same : {z z′ : Shape} {img img′ : List ℕ} {t : ℕ} → z′ .settings .chunks ≡ z .settings .chunks
+    → lowField z′ img′ t ≡ lowField z img t → lowestClear z′ img′ t ≡ lowestClear z img t → LowMarkFits z img t → LowMarkFits z′ img′ t
+low-mark-same many field bits f =
+    record { noneBelow = omega (arith, field, bits, f .noneBelow); whenFull = λ full. field ∙ f .whenFull (sym bits ∙ full ∙ many) ∙ sym many }
 
 pub low-mark-few : {z : Shape} {img : List ℕ} {t : ℕ} → LowMarkFits z img t → lowField z img t ≤ z .settings .chunks
 low-mark-few {z} {img} {t} f = omega (arith, f .noneBelow, lowest-few z img t)

@@ -1,4 +1,5 @@
--- The row of 10 never holds for a replacement that takes as many chunks as the old entry, or fewer: its own tier takes it.
+-- Where the row of 10 never holds: while a tier is free; and for a replacement that takes as many chunks as the old entry, or fewer, because
+-- its own tier takes it.
 use Prim.Native.Nat.{ℕ, _≤_}
 use mathlib.Core.List.{List, List·Memᴰ}
 use mathlib.Core.Path.{_≡_, refl, ap, sym, _∙_, subst}
@@ -7,9 +8,9 @@ use mathlib.Core.Bool.{false}
 use mathlib.Core.Option.{some}
 use native.Mathlib.Omega.{arith}
 use lib.ListN.{length}
-use borrow.Author.Tests.{eq-eqb}
+use borrow.Author.Tests.{eq-eqb, ne-eqb}
 use Rattle.layout.specs.declared.Shape.{Shape}
-use Rattle.chains.specs.Chains.{chain}
+use Rattle.chains.specs.Chains.{chain, freeHead}
 use Rattle.entries.specs.declared.Live.{Live}
 use Rattle.entries.specs.Keys.{segmentOf}
 use Rattle.entries.specs.Stored.{chunksFor}
@@ -27,8 +28,21 @@ use Rattle.placement.proofs.Running.{Takes}
 use Rattle.placement.proofs.Taking.{first-taken, some-empty-few}
 use Rattle.edit.specs.Edits.{find, without, runOf, nowhereToGo, noRoom}
 use Rattle.edit.proofs.Finding.{find-live, live-segment}
-use Rattle.edit.proofs.Without.{without-found}
+use Rattle.edit.proofs.Without.{without-found, without-head}
 use Rattle.edit.proofs.Replacing.{live-range}
+
+-- ---- a free tier takes any entry
+
+module _ (z : Shape) (img : List ℕ) (sound : SoundImage z img) (key value : List ℕ) (ne : freeHead z img ≢ 0) where
+  free-room : (r : Run) → nowhereToGo z (without z img key) r ≡ false
+  free-room (At t c) = refl
+  free-room Nowhere = ne-eqb _ 0 (λ e. ne (sym (without-head z img sound key) ∙ e))
+
+  pub room-when-free : noRoom z img key value ≡ false
+  unfolding noRoom
+  room-when-free = free-room (runOf z (without z img key) key value)
+
+-- ---- a replacement
 
 module _ (z : Shape) (img : List ℕ) (sound : SoundImage z img) (key value : List ℕ) (e : Live) (f : find z img key ≡ some e) where
   abbrev n : ℕ

@@ -1,7 +1,7 @@
 -- What the seven writes that let tier t join after tier l set, and all that they do.
 use Prim.Native.Nat.{ℕ, suc, _^_, _<_}
-use mathlib.Core.List.{List, [], _∷_, _++_}
-use mathlib.Core.Path.{_≡_, refl, ap, sym, _∙_}
+use mathlib.Core.List.{List, [], _∷_}
+use mathlib.Core.Path.{_≡_, refl, sym, _∙_}
 use mathlib.Core.Logic.{⊎-elim, _≢_}
 use native.Mathlib.Omega.{arith}
 use lib.ListN.{length}
@@ -10,7 +10,7 @@ use Rattle.layout.specs.declared.Shape.{Shape}
 use Rattle.layout.specs.Tiers.{IsTier}
 use Rattle.layout.specs.Places.{Counter, entryCount, lowestFree, nextTier, next, previous, low, segment, order, count, Global, firstFree, usedTiers, globalNo, counterNo, Place, global, tier, counter, wide, partWide, In, get, nextPlace, Write, _≔_, puts}
 use Rattle.layout.specs.Frame.{Image}
-use Rattle.layout.proofs.Places.{written, get-same, get-puts-other, puts-append, image-puts, length-puts, kind, by-kind, shared-in, shared-kind, shared-never, shared-tiers, shared-wide}
+use Rattle.layout.proofs.Places.{written, get-puts-here, image-puts, length-puts, kind, by-kind, shared-in, shared-kind, shared-never, shared-tiers, shared-wide}
 use Rattle.chains.specs.Chains.{nextOf, freeHead}
 use Rattle.sound.proofs.AgreeTier.{SameTier, SameCounters}
 use Rattle.joining.proofs.Kept.{joinWrites, next-kept, counter-kept, shared-kept, same-tiers, global-kept}
@@ -32,15 +32,6 @@ pub record Joins (z : Shape) (img img′ : List ℕ) (s t l n : ℕ) : Type 0 wh
   pub sameTiers : (u : ℕ) → IsTier z u → SameTier z img img′ u
   pub counts : (u : ℕ) → IsTier z u → SameCounters z img img′ u
   pub globals : (f : Global) → globalNo f ≢ 1 → globalNo f ≢ 2 → get z img′ (global f) ≡ get z img (global f)
-
--- a write of a place followed by writes of other places
-pub get-puts-here : {z : Shape} {img : List ℕ} → Image z img → (us : List Write) (p : Place) (v : ℕ) (vs : List Write) → In z p → v < 256 ^ wide z p
-    → Every vs (λ w. In z (written w) × (p ≢ written w)) → get z (puts z img (us ++ (p ≔ v) ∷ vs)) p ≡ v
-unfolding puts
-get-puts-here {z} {img} im us p v vs h f e =
-    ap (λ (r : List ℕ). get z r p) (puts-append z img us ((p ≔ v) ∷ vs))
-    ∙ get-puts-other (image-puts im us .framed) _ vs p h e
-    ∙ get-same (image-puts im us) p v h f
 
 module _ {z : Shape} {img : List ℕ} (im : Image z img) (s t l a b n : ℕ) (it : IsTier z t) (il : IsTier z l) where
   abbrev after : List ℕ

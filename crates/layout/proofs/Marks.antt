@@ -48,6 +48,24 @@ unfolding putMarks
 image-putMarks {z} {img} i t c n b h =
     record { bytes = bytes-putBits img (freeListAt z t) c n b (i .bytes) h; framed = rw length-putBits (i .framed) }
 
+-- a byte that holds none of the tier's marks
+pub getD-putMarks-out : (z : Shape) (img : List ℕ) (t c n b j : ℕ) → c + n ≤ z .settings .chunks
+    → ((k : ℕ) → 8 * k < z .settings .chunks → Apart j 1 (at z (tier t (free k))) (wide z (tier t (free k))))
+    → getD (putMarks z img t c n b) j 0 ≡ getD img j 0
+unfolding putMarks wide partWide
+getD-putMarks-out z img t c n b j fits off = getD-putBits-out img (freeListAt z t) c n b j (by-place (lt-or j (freeListAt z t)))
+  where
+    by-byte : freeListAt z t ≤ j → ((8 * (j - freeListAt z t) < z .settings .chunks) ⊎ (z .settings .chunks ≤ 8 * (j - freeListAt z t)))
+        → (8 * j + 7 < 8 * freeListAt z t + c) ⊎ (8 * freeListAt z t + c + n ≤ 8 * j)
+    by-byte l (inl k) =
+        let here : at z (tier t (free (j - freeListAt z t))) ≡ j = omega (arith, free-at z t (j - freeListAt z t)) in
+        absurd (⊎-elim (λ a. omega (arith, a, here)) (λ a. omega (arith, a, here)) (off (j - freeListAt z t) k))
+    by-byte l (inr k) = inr (omega arith)
+
+    by-place : ((j < freeListAt z t) ⊎ (freeListAt z t ≤ j)) → (8 * j + 7 < 8 * freeListAt z t + c) ⊎ (8 * freeListAt z t + c + n ≤ 8 * j)
+    by-place (inl l) = inl (omega arith)
+    by-place (inr l) = by-byte l (lt-or (8 * (j - freeListAt z t)) (z .settings .chunks))
+
 module _ {z : Shape} {len : ℕ} (fr : Framed z len) (img : List ℕ) where
   open Shape z using (settings)
   open Settings settings using (chunks)
@@ -57,31 +75,15 @@ module _ {z : Shape} {len : ℕ} (fr : Framed z len) (img : List ℕ) where
   mark-put-other p v t i h ne it k =
       rw (mark-get z (put z img p v) t i, mark-get z img t i, get-other fr img p v (tier t (free (i / 8))) h (it, omega arith) (λ e. ne (i / 8) (sym e)))
 
-  -- a byte of such a place holds no mark of the tier
-  free-apart : (t b : ℕ) (p : Place) → IsTier z t → 8 * b < chunks → In z p → NoFree t p → Apart (at z p) (wide z p) (freeListAt z t + b) 1
-  unfolding wide partWide
-  free-apart t b p it k h ne = rw (← free-at z t b) (apart fr p (tier t (free b)) h (it, k) (ne b))
-
-  no-mark : (t c n : ℕ) (p : Place) (j : ℕ) → IsTier z t → c + n ≤ chunks → In z p → NoFree t p → at z p ≤ j → j < at z p + wide z p
-      → (8 * j + 7 < 8 * freeListAt z t + c) ⊎ (8 * freeListAt z t + c + n ≤ 8 * j)
-  no-mark t c n p j it fits h ne lo hi =
-      ⊎-elim
-      (λ (l : j < freeListAt z t). inl (omega arith))
-      (λ (l : freeListAt z t ≤ j).
-      let b : ℕ = j - freeListAt z t in
-      let same : freeListAt z t + b ≡ j = omega arith in
-      ⊎-elim
-      (λ (k : 8 * b < chunks). absurd (⊎-elim (λ a. omega arith) (λ a. omega arith) (free-apart t b p it k h ne)))
-      (λ (k : chunks ≤ 8 * b). inr (omega arith))
-      (lt-or (8 * b) chunks))
-      (lt-or j (freeListAt z t))
-
   -- a place that is not in the tier's free list, by a change of its marks
   pub get-putMarks-other : (t c n b : ℕ) (p : Place) → IsTier z t → c + n ≤ chunks → In z p → NoFree t p
       → get z (putMarks z img t c n b) p ≡ get z img p
-  unfolding get putMarks
+  unfolding get
   get-putMarks-other t c n b p it fits h ne =
-      le-ext _ _ (at z p) (wide z p) (λ j lo hi. getD-putBits-out img (freeListAt z t) c n b j (no-mark t c n p j it fits h ne lo hi))
+      le-ext _ _ (at z p) (wide z p)
+      (λ j lo hi.
+      getD-putMarks-out z img t c n b j fits
+      (λ k l. ⊎-elim (λ a. inl (omega arith)) (λ a. inr (omega arith)) (apart fr p (tier t (free k)) h (it, l) (ne k))))
 
 -- ---- the marks of the tier itself
 

@@ -9,8 +9,10 @@ use lib.ListN.{length, getD}
 use borrow.Author.Tests.{le-leb, lt-leb}
 use Rattle.lists.specs.Cases.{lt-or}
 use Rattle.lists.specs.Quantify.{Every}
-use Rattle.words.specs.Numbers.{le, putLe}
-use Rattle.words.proofs.Numbers.{length-putLe, bytes-putLe, le-lt, le-putLe-same, le-putLe-out}
+use Rattle.words.specs.Bytes.{Apart}
+use Rattle.words.specs.Numbers.{le, leBytes, putLe}
+use Rattle.words.proofs.Bytes.{getD-sets-out}
+use Rattle.words.proofs.Numbers.{length-leBytes, length-putLe, bytes-putLe, le-lt, le-putLe-same, le-putLe-out}
 use Rattle.layout.specs.declared.Shape.{Shape}
 use Rattle.layout.specs.Tiers.{tierAt, IsTier}
 use Rattle.layout.specs.Places.{Global, bulkCount, firstFree, usedTiers, headersOffset, storeSize, Header, entryCount, lowestFree, nextTier, Counter, next, previous, low, segment, order, count, slot, counter, free, byte, Place, global, header, tier}
@@ -65,6 +67,13 @@ pub get-same : {z : Shape} {img : List ℕ} → Image z img → (p : Place) (v :
 unfolding get put
 get-same {z} {img} i p v h f = le-putLe-same img (at z p) (wide z p) v (omega (arith, inside (i .framed) p h, i .framed .within)) f
 
+-- a byte that is none of the place's
+pub getD-put-out : (z : Shape) (img : List ℕ) (p : Place) (v i : ℕ) → Apart i 1 (at z p) (wide z p) → getD (put z img p v) i 0 ≡ getD img i 0
+unfolding put putLe
+getD-put-out z img p v i o =
+    getD-sets-out img (at z p) (leBytes (wide z p) v) i
+    (⊎-elim (λ (a : i + 1 ≤ at z p). inl (omega arith)) (λ (a : at z p + wide z p ≤ i). inr (omega (arith, length-leBytes (wide z p) v))) o)
+
 -- ---- two places
 
 module _ {z : Shape} {len : ℕ} (fr : Framed z len) (img : List ℕ) where
@@ -101,6 +110,22 @@ get-puts-other {z} fr img ((p ≔ v) ∷ ws) q k h =
     get-puts-other fr (put z img p v) ws q k (λ w m. h w (List·Memᴰ·tail m))
     ∙ get-other fr img p v q (h (p ≔ v) (List·Memᴰ·head refl) .0) k (h (p ≔ v) (List·Memᴰ·head refl) .1)
 
+-- a write of a place, followed by writes of other places
+pub get-puts-here : {z : Shape} {img : List ℕ} → Image z img → (us : List Write) (p : Place) (v : ℕ) (vs : List Write) → In z p → v < 256 ^ wide z p
+    → Every vs (λ w. In z (written w) × (p ≢ written w)) → get z (puts z img (us ++ (p ≔ v) ∷ vs)) p ≡ v
+unfolding puts
+get-puts-here {z} {img} im us p v vs h f e =
+    ap (λ (r : List ℕ). get z r p) (puts-append z img us ((p ≔ v) ∷ vs))
+    ∙ get-puts-other (image-puts im us .framed) _ vs p h e
+    ∙ get-same (image-puts im us) p v h f
+
+pub getD-puts-out : (z : Shape) (img : List ℕ) (ws : List Write) (i : ℕ) → Every ws (λ w. Apart i 1 (at z (written w)) (wide z (written w)))
+    → getD (puts z img ws) i 0 ≡ getD img i 0
+unfolding puts
+getD-puts-out z img [] i o = refl
+getD-puts-out z img ((p ≔ v) ∷ ws) i o =
+    getD-puts-out z (put z img p v) ws i (λ w m. o w (List·Memᴰ·tail m)) ∙ getD-put-out z img p v i (o (p ≔ v) (List·Memᴰ·head refl))
+
 -- ---- places of different kinds are different places
 
 -- a number for each name, whatever its indexes
@@ -127,7 +152,7 @@ header-lt entryCount = lit< tt
 header-lt lowestFree = lit< tt
 header-lt nextTier = lit< tt
 
-counter-lt : (f : Counter) → counterNo f < 6
+pub counter-lt : (f : Counter) → counterNo f < 6
 counter-lt next = lit< tt
 counter-lt previous = lit< tt
 counter-lt low = lit< tt

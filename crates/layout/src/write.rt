@@ -5,9 +5,16 @@ ghost use mathlib.Core.Path.{_≡_};
 ghost use Prim.Native.Nat.{_<_};
 ghost use lib.ListN.{length};
 ghost use Rattle.layout.specs.Tiers.{IsTier};
-ghost use Rattle.layout.specs.Places.{put, global, firstFree, usedTiers, tier, slot, counter, previous, segment, order, nextPlace, lowPlace, countPlace, putMarks};
+ghost use Rattle.layout.specs.Places.{put, global, bulkCount, firstFree, usedTiers, storeSize, tier, slot, counter, previous, segment, order, nextPlace, lowPlace, countPlace, putMarks};
 ghost use Rattle.layout.specs.Frame.{Framed, HasChunks};
 ghost use Rattle.layout.specs.FramedTier.{FramedSlot};
+
+pub fn put_bulk_count(z: Shape, img: &mut [u8], v: u64)
+    requires { ⌜ Framed z (length (now img)) ⌝ }
+    ensures { λ r. ⌜ now (img .exit) ≡ put z (now (img .entry)) (global bulkCount) v ⌝ }
+{
+    words::write_le(img, z.settings.globalAt + super::BULK_COUNT, 3, v);
+}
 
 pub fn put_first_free(z: Shape, img: &mut [u8], v: u64)
     requires { ⌜ Framed z (length (now img)) ⌝ }
@@ -21,6 +28,13 @@ pub fn put_used_tiers(z: Shape, img: &mut [u8], v: u64)
     ensures { λ r. ⌜ now (img .exit) ≡ put z (now (img .entry)) (global usedTiers) v ⌝ }
 {
     words::write_le(img, z.settings.globalAt + super::USED_TIERS, 5, v);
+}
+
+pub fn put_store_size(z: Shape, img: &mut [u8], v: u64)
+    requires { ⌜ Framed z (length (now img)) ⌝ }
+    ensures { λ r. ⌜ now (img .exit) ≡ put z (now (img .entry)) (global storeSize) v ⌝ }
+{
+    words::write_le(img, z.settings.globalAt + super::STORE_SIZE, 8, v);
 }
 
 pub fn put_next(z: Shape, img: &mut [u8], t: usize, v: u64)

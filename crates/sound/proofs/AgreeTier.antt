@@ -95,7 +95,7 @@ module _ (z : Shape) (img img′ : List ℕ) (u : ℕ) where
   same-counters slotsSame marksSame c f =
       record {
         entryCount = c .count ∙ f .entryCount ∙ sym (ap length (same-full slotsSame));
-        lowMark = low-mark-same (c .low) (same-lowest marksSame) (f .lowMark);
+        lowMark = low-mark-same refl (c .low) (same-lowest marksSame) (f .lowMark);
       }
 
   pub same-free : SameSlots z img img′ u → SameMarks z img img′ u → FreeTierFits z img u → FreeTierFits z img′ u
