@@ -17,13 +17,14 @@ demo:
 lib:
 	rt staticlib chronicle_map_c
 
-# Builds the examples in C, looks up both keys of the sample store and one that is absent, asks for and sets delays by pair, and replaces one
-# by both kinds of store.
+# Builds the examples in C, looks up both keys of the sample store and one that is absent, asks for and sets delays by pair, replaces one
+# by both kinds of store, and adds a bulk for the fifth of six new keys.
 CC99 = gcc -std=c99 -Wall -Wextra -Werror -Iinclude
 example: lib header examples/pairs.store
 	$(CC99) examples/lookup.c target/staticlib/libchronicle_map_c.a -o target/lookup
 	$(CC99) examples/delay.c target/staticlib/libchronicle_map_c.a -o target/delay
 	$(CC99) examples/replace.c target/staticlib/libchronicle_map_c.a -o target/replace
+	$(CC99) examples/grow.c target/staticlib/libchronicle_map_c.a -o target/grow
 	target/lookup examples/pairs.store 1 2
 	target/lookup examples/pairs.store 2 1
 	target/lookup examples/pairs.store 1 3 || test $$? -eq 1
@@ -32,6 +33,7 @@ example: lib header examples/pairs.store
 	target/delay examples/pairs.store 2 1 40
 	target/delay examples/pairs.store 31 32 -25
 	target/replace examples/pairs.store 1 2 32
+	target/grow examples/pairs.store 6
 
 # The out structs have the layout of the compiled functions' arrays, and a caller with an array of the earlier header does not compile.
 header:

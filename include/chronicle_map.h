@@ -10,12 +10,13 @@
  *
  * What a caller owes
  * ------------------
- *   - Each pointer points to as many readable bytes as the length beside it says, `image` of a store, a removal
- *     or a set to as many writable ones, an out struct to one of its type, and `delay` of an ask to one number.
+ *   - Each pointer points to as many readable bytes as the length beside it says, `image` of a store, a removal,
+ *     a set or a grow to as many writable ones, an out struct to one of its type, and `delay` of an ask to one
+ *     number.
  *   - No pointer is null. A length of 0 may come with any other pointer.
- *   - The image of a store, a removal or a set overlaps no other argument: a key or a record that stands in the
- *     image is copied out before it is given. An out struct and `delay` of an ask overlap no other argument
- *     either. What is only read (`const`) may overlap what is only read.
+ *   - The image of a store, a removal, a set or a grow overlaps no other argument: a key or a record that stands
+ *     in the image is copied out before it is given. An out struct and `delay` of an ask overlap no other
+ *     argument either. What is only read (`const`) may overlap what is only read.
  *   - While a call runs, nobody else writes to what it was given, and nobody else reads what it may write.
  *     Calls on different images may run at the same time, and so may calls that only read one image.
  *
@@ -33,9 +34,9 @@ extern "C" {
 #endif
 
 /*
- * The number that a call returns. Of those that apply the first is given, in the order 2 to 8, 11, 12, 9; only
- * where none of these applies, 0, 1 or 10. With any number but 0 the out struct is all zeros, the delay of an ask
- * is 0, and the image is as it was before the call; there is one exception, the place of a lookup that returns 1.
+ * The number that a call returns. Of those that apply the first is given, in the order 2 to 8, 11, 12, 9, 13;
+ * only where none of these applies, 0, 1 or 10. With any number but 0 the out struct is all zeros, the delay of an
+ * ask is 0, and the image is as it was before the call; there is one exception, the place of a lookup that returns 1.
  */
 enum {
     CHRONICLE_MAP_DONE = 0,    /* done, or found */
@@ -50,7 +51,8 @@ enum {
     CHRONICLE_MAP_VALUE = 9,   /* the record is longer than 65,535 bytes, or takes more chunks than an entry may */
     CHRONICLE_MAP_FULL = 10,   /* no tier has room for the entry, and none is free */
     CHRONICLE_MAP_PAIR = 11,   /* a channel is not one of 1 to 32, or the two are equal */
-    CHRONICLE_MAP_DELAY = 12   /* the delay, given or stored, is INT32_MIN, or the stored record is not 4 bytes */
+    CHRONICLE_MAP_DELAY = 12,  /* the delay, given or stored, is INT32_MIN, or the stored record is not 4 bytes */
+    CHRONICLE_MAP_NO_BULK = 13 /* the image is too short for one more bulk, or the tiers would pass 1,024 */
 };
 
 /*
@@ -134,6 +136,17 @@ uint32_t chronicle_map_store_tight(const uint8_t *block, size_t block_len,
 uint32_t chronicle_map_remove(const uint8_t *block, size_t block_len,
                               uint8_t *image, size_t image_len,
                               const uint8_t *key, size_t key_len);
+
+/*
+ * Adds one bulk after the last, for when a store returns 10. Its tiers stand in the free chain in front of those
+ * that are free already, so the next store does not return 10. Every key keeps its record, and what a lookup or the
+ * list answered before is still right. Returns 0, one of 2 to 7, or 13.
+ * The bulk must fit in the image behind the store. It takes as many bytes as field 16 of the block says (the block's
+ * bytes 63 to 66, the highest first), so an image with that many bytes more than before is long enough, whatever
+ * they hold; no image has more than 16,777,216 bytes.
+ */
+uint32_t chronicle_map_grow(const uint8_t *block, size_t block_len,
+                            uint8_t *image, size_t image_len);
 
 /*
  * Gives the n-th live entry, n from 0, by segment, then by the order of the segment's tiers, then by slot.

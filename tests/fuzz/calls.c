@@ -129,6 +129,37 @@ static void looked(uint32_t check, const uint8_t *block, const uint8_t *image, s
     need(found != 0 || met);
 }
 
+/* A key has the same lookup in both images, and the list the same rows. */
+static void same_map(const uint8_t *block, const uint8_t *before, const uint8_t *after, size_t length, const uint8_t *key, size_t key_length) {
+    struct chronicle_map_place old_place, place;
+    struct chronicle_map_row old_row, row;
+    uint32_t found = chronicle_map_lookup(block, BLOCK, before, length, key, key_length, &old_place);
+    need(chronicle_map_lookup(block, BLOCK, after, length, key, key_length, &place) == found);
+    need(memcmp(&old_place, &place, sizeof place) == 0);
+    uint32_t listed = 0;
+    for (uint64_t n = 0; listed == 0; n++) {
+        listed = chronicle_map_entry(block, BLOCK, before, length, n, &old_row);
+        need(chronicle_map_entry(block, BLOCK, after, length, n, &row) == listed);
+        need(memcmp(&old_row, &row, sizeof row) == 0);
+    }
+}
+
+/* One bulk more: the check's number, or 0 or 13. Only free tiers are counted more after it, the map is the same, and a store has room. */
+static void grown(uint32_t check, const struct chronicle_map_counts *counts, const uint8_t *block, const uint8_t *image, uint8_t *copy,
+                  size_t length, const uint8_t *key, size_t key_length) {
+    struct chronicle_map_counts after;
+    uint32_t number = chronicle_map_grow(block, BLOCK, copy, length);
+    need(check == 0 ? number == 0 || number == 13 : number == check);
+    edited(number, 13, block, image, copy, length);
+    if (number == 0) {
+        need(chronicle_map_check(block, BLOCK, copy, length, &after) == 0);
+        need(after.entries == counts->entries && after.chunks == counts->chunks);
+        need(after.tiers == counts->tiers && after.free > counts->free);
+        same_map(block, image, copy, length, key, key_length);
+        need(chronicle_map_store(block, BLOCK, copy, length, key, key_length, key, key_length) != 10);
+    }
+}
+
 int LLVMFuzzerTestOneInput(const uint8_t *data, size_t size) {
     if (size < PAIR + 1 || size < PAIR + 1 + (size_t)data[PAIR] + BLOCK) {
         return 0;
@@ -150,6 +181,8 @@ int LLVMFuzzerTestOneInput(const uint8_t *data, size_t size) {
     edited(chronicle_map_remove(block, BLOCK, copy, length, key, key_length), 8, block, image, copy, length);
     memcpy(copy, image, length);
     pairs(number, block, image, copy, length, &pair);
+    memcpy(copy, image, length);
+    grown(number, &counts, block, image, copy, length, key, key_length);
     free(copy);
     return 0;
 }

@@ -50,6 +50,12 @@ mod c {
             key: *const u8,
             key_len: usize,
         ) -> u32;
+        pub fn chronicle_map_grow(
+            block: *const u8,
+            block_len: usize,
+            image: *mut u8,
+            image_len: usize,
+        ) -> u32;
         pub fn chronicle_map_entry(
             block: *const u8,
             block_len: usize,
@@ -161,6 +167,12 @@ pub fn remove(block: &[u8], image: &mut [u8], key: &[u8]) -> u32 {
             key.len(),
         )
     }
+}
+
+/// One bulk more: its number.
+pub fn grow(block: &[u8], image: &mut [u8]) -> u32 {
+    // SAFETY: as in `check`.
+    unsafe { c::chronicle_map_grow(block.as_ptr(), block.len(), image.as_mut_ptr(), image.len()) }
 }
 
 /// The n-th entry: its number; the row is a lister line's seven numbers.

@@ -25,7 +25,7 @@ use std::ops::Range;
 #[allow(unsafe_code)]
 pub mod ffi;
 
-/// Why a call refuses: the first that applies, in the order 2 to 8, 11, 12, 9, 10.
+/// Why a call refuses: the first that applies, in the order 2 to 8, 11, 12, 9, 10, 13.
 #[derive(Clone, Copy, Debug, PartialEq, Eq, Hash)]
 pub enum Refusal {
     /// 2: the block's length, its length field or its version is wrong.
@@ -50,10 +50,12 @@ pub enum Refusal {
     Pair = 11,
     /// 12: the delay, given or stored, is `i32::MIN`, or the stored record is not 4 bytes.
     Delay = 12,
+    /// 13: the image is too short for one more bulk, or the tiers would pass 1,024.
+    NoBulk = 13,
 }
 
 impl Refusal {
-    /// The number of the C interface, 2 to 12.
+    /// The number of the C interface, 2 to 13.
     pub fn number(self) -> u32 {
         self as u32
     }
@@ -71,6 +73,7 @@ impl Refusal {
             10 => Refusal::Full,
             11 => Refusal::Pair,
             12 => Refusal::Delay,
+            13 => Refusal::NoBulk,
             other => unreachable!("the library's contracts allow no answer {other} here"),
         }
     }
@@ -90,6 +93,7 @@ impl fmt::Display for Refusal {
             Refusal::Full => "no tier has room for the entry",
             Refusal::Pair => "a channel is not one of 1 to 32, or the two are equal",
             Refusal::Delay => "the delay is the most negative number, or not 4 bytes",
+            Refusal::NoBulk => "there is no room for one more bulk",
         };
         write!(f, "refused {}: {reason}", self.number())
     }
@@ -227,7 +231,7 @@ pub fn store_tight(
     done(ffi::store_tight(block, image, key, value))
 }
 
-// The number of a store or a set.
+// The number of a store, a set or a grow.
 fn done(number: u32) -> Result<(), Refusal> {
     match number {
         0 => Ok(()),
@@ -242,6 +246,17 @@ pub fn remove(block: &[u8], image: &mut [u8], key: &[u8]) -> Result<bool, Refusa
         1 => Ok(false),
         number => Err(Refusal::of(number)),
     }
+}
+
+/// Adds one bulk after the last, for when a store is refused with `Full`. Its tiers stand in the free chain in front of those
+/// that are free already, so the next store is not refused with `Full`. Every key keeps its record, and what `lookup` or
+/// `entry` answered before is still right. Refusals: `Block` to `Chunks`, `NoBulk`.
+///
+/// The bulk must fit in the image behind the store. It takes as many bytes as field 16 of the block says
+/// (`u32::from_be_bytes` of `block[63..67]`), so an image with that many bytes more than before is long enough, whatever
+/// they hold; no image has more than 16,777,216 bytes.
+pub fn grow(block: &[u8], image: &mut [u8]) -> Result<(), Refusal> {
+    done(ffi::grow(block, image))
 }
 
 /// The n-th live entry, n from 0, by segment, order of its tiers, slot; `None` past the last. Refusals: `Block` to `Chunks`.

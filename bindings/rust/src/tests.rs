@@ -123,6 +123,68 @@ fn a_removal_says_whether_the_key_was_there() {
     assert_eq!(stored(block, &image, [2, 1]), Some(-16));
 }
 
+// A bulk is one tier of 200 bytes, so that the new one is tier 3, from 496 on. Tier 2 is free before.
+#[test]
+fn one_more_bulk() {
+    let (block, mut image) = pairs();
+    image.extend([0xFF; 200]);
+    let mut after = image.clone();
+    after[8] = 2;
+    after[11] = 3;
+    after[25..33].copy_from_slice(&696u64.to_le_bytes());
+    after[496..512].fill(0);
+    after[560..568].copy_from_slice(&2u64.to_le_bytes());
+    after[568..596].fill(0);
+    after[624] = 0;
+    assert_eq!(grow(block, &mut image), Ok(()));
+    assert_eq!(image, after);
+    assert_eq!(
+        check(block, &image),
+        Ok(Counts {
+            entries: 2,
+            chunks: 2,
+            tiers: 1,
+            free: 2
+        })
+    );
+    assert_eq!(grow(block, &mut image), Err(Refusal::NoBulk));
+    assert_eq!(image, after);
+}
+
+#[test]
+fn no_bulk_where_a_byte_is_lacking_or_the_image_is_refused() {
+    let (block, mut image) = pairs();
+    assert_eq!(grow(block, &mut image), Err(Refusal::NoBulk));
+    image.extend([0xFF; 199]);
+    let before = image.clone();
+    assert_eq!(grow(block, &mut image), Err(Refusal::NoBulk));
+    assert_eq!(grow(&[], &mut image), Err(Refusal::Block));
+    assert_eq!(image, before);
+    image[100] ^= 1;
+    assert_eq!(grow(block, &mut image), Err(Refusal::Entries));
+}
+
+// Each tier takes three entries.
+#[test]
+fn a_full_store_takes_the_next_record_after_one_more_bulk() {
+    let (block, mut image) = pairs();
+    for key in [[3, 1], [1, 3], [4, 1], [5, 1]] {
+        assert_eq!(store(block, &mut image, &key, &[0; 4]), Ok(()));
+    }
+    let next = |image: &mut [u8]| store(block, image, &[6, 1], &40i32.to_le_bytes());
+    assert_eq!(next(&mut image), Err(Refusal::Full));
+    image.extend([0; 200]);
+    assert_eq!(next(&mut image), Err(Refusal::Full));
+    assert_eq!(grow(block, &mut image), Ok(()));
+    assert_eq!(next(&mut image), Ok(()));
+    assert_eq!(stored(block, &image, [6, 1]), Some(40));
+    assert_eq!(stored(block, &image, [1, 2]), Some(16));
+    assert_eq!(
+        lookup(block, &image, &[6, 1]).map(Located::range),
+        Ok(Some(636..640))
+    );
+}
+
 #[test]
 fn the_list() {
     let (block, image) = pairs();
@@ -188,6 +250,7 @@ fn refusals_by_number() {
     assert_eq!(Refusal::Full.number(), 10);
     assert_eq!(Refusal::Pair.number(), 11);
     assert_eq!(Refusal::Delay.number(), 12);
+    assert_eq!(Refusal::NoBulk.number(), 13);
 }
 
 // The record under 2 1 is no part of the pair: it stays -16.

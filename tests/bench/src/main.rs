@@ -64,6 +64,16 @@ fn reads(s: &Store, size: &str) {
     row("entry", size, both(rounds, calls, |_| seen(chronicle_map::entry(b, m, n)), |_| seen(reference::entry(b, m, n))));
 }
 
+/// How many rounds of edits an image of some length gets.
+fn rounds(length: usize) -> usize {
+    if length > 1_000_000 { 9 } else { (2_000_000 / length).clamp(25, 400) }
+}
+
+/// The number of an edit that answers nothing else.
+fn ok(answer: Result<(), chronicle_map::Refusal>) -> u32 {
+    answer.map_or_else(|e| e.number(), |()| 0)
+}
+
 /// The time of one edit, which must answer 0.
 fn once(best: &mut f64, edit: impl FnOnce() -> u32) {
     let t = Instant::now();
@@ -76,12 +86,10 @@ fn once(best: &mut f64, edit: impl FnOnce() -> u32) {
 fn edits(s: &Store, size: &str) {
     let (b, k) = (&s.block, &s.keys);
     let (mut mine, mut other) = (s.image.clone(), s.image.clone());
-    let rounds = if mine.len() > 1_000_000 { 9 } else { (2_000_000 / mine.len()).clamp(25, 400) };
-    let ok = |r: Result<(), chronicle_map::Refusal>| r.map_or_else(|e| e.number(), |()| 0);
     let gone = |r: Result<bool, chronicle_map::Refusal>| r.map_or_else(|e| e.number(), |there| !there as u32);
     let (record, another) = ([1, 2, 3, 4], [5, 6, 7, 8]);
     let [mut stores, mut removes, mut replaces, mut tight, mut appends] = [(f64::MAX, f64::MAX); 5];
-    for i in 0..rounds {
+    for i in 0..rounds(s.image.len()) {
         let key = &k[i * 37 % k.len()];
         once(&mut removes.0, || gone(chronicle_map::remove(b, &mut mine, key)));
         once(&mut removes.1, || reference::remove(b, &mut other, key));
@@ -102,6 +110,22 @@ fn edits(s: &Store, size: &str) {
     row("store, replaced on the spot", size, replaces);
     row("store_tight, replaced", size, tight);
     row("store, new key", size, appends);
+}
+
+/// One bulk more. Each side has an image of its own with room for it, the same one anew in each round.
+fn grows(s: &Store, size: &str) {
+    let mut room = s.image.clone();
+    room.resize(s.image.len() + s.bulk, 0xFF);
+    let (mut mine, mut other) = (room.clone(), room.clone());
+    let mut grows = (f64::MAX, f64::MAX);
+    for _ in 0..rounds(room.len()) {
+        mine.copy_from_slice(&room);
+        once(&mut grows.0, || ok(chronicle_map::grow(&s.block, &mut mine)));
+        other.copy_from_slice(&room);
+        once(&mut grows.1, || reference::grow(&s.block, &mut other));
+        assert!(mine == other);
+    }
+    row("grow", size, grows);
 }
 
 fn plans() -> [(&'static str, Plan); 5] {
@@ -143,6 +167,7 @@ fn main() {
         assert!(chronicle_map::check(&s.block, &s.image).is_ok());
         reads(&s, size);
         edits(&s, size);
+        grows(&s, size);
     }
     growth();
 }

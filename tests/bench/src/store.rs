@@ -14,6 +14,8 @@ pub struct Store {
     pub block: Vec<u8>,
     pub image: Vec<u8>,
     pub keys: Vec<Vec<u8>>,
+    /// The bytes of a bulk.
+    pub bulk: usize,
 }
 
 const KEY_BITS: usize = 20;
@@ -39,7 +41,7 @@ pub fn store(p: Plan) -> Store {
     }
     let mains = 64 + p.segments * HEADER;
     let size = mains + (p.segments + 1) * tier;
-    let mut s = Store { block, image: vec![0; size], keys: Vec::new() };
+    let mut s = Store { block, image: vec![0; size], keys: Vec::new(), bulk: tier };
     put(&mut s.image, 8, 3, 1);
     put(&mut s.image, 11, 5, p.segments as u64 + 1);
     put(&mut s.image, 21, 4, 64);

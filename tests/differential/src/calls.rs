@@ -1,5 +1,6 @@
 //! Calls on any image, accepted or not.
 
+use crate::bulks;
 use crate::channels;
 use crate::compare::{Outcome, Pair};
 use crate::damage::Verdict;
@@ -22,12 +23,17 @@ pub fn all_calls(
     {
         return Err(format!("check: both answer {number}, meant was {expected}"));
     }
+    let mut plan = plan.clone();
     for _ in 0..2 {
-        pair.lookup(&draw::offered_key(rng, plan, keys))?;
-        both_stores(rng, plan, keys, pair)?;
-        pair.remove(&draw::offered_key(rng, plan, keys))?;
+        pair.lookup(&draw::offered_key(rng, &plan, keys))?;
+        both_stores(rng, &plan, keys, pair)?;
+        pair.remove(&draw::offered_key(rng, &plan, keys))?;
         pair.entry(rng.below(4) as u64)?;
         pair_calls(rng, keys, pair, number)?;
+        match verdict {
+            Verdict::Is(0) => _ = bulks::add(&mut plan, pair)?,
+            _ => one_more_bulk(&plan, pair, number)?,
+        }
     }
     let long = rng.bytes(1025);
     pair.lookup(&long)?;
@@ -50,6 +56,26 @@ fn both_stores(rng: &mut Rng, plan: &Plan, keys: &[Vec<u8>], pair: &mut Pair) ->
     let second = pair.store(first.other(), &key, &value)?;
     if number != second {
         return Err(format!("stores: both answer {number}, then {second}"));
+    }
+    Ok(())
+}
+
+/// One bulk more of an image that may be of another plan or refused, which
+/// comes before what it lacks.
+fn one_more_bulk(plan: &Plan, pair: &mut Pair, refused: u32) -> Outcome<()> {
+    let number = pair.grow()?;
+    if refused == 0 {
+        let (again, _) = pair.check()?;
+        return match again {
+            0 => Ok(()),
+            _ => Err(format!("grow: {number}, and then {again} by the check")),
+        };
+    }
+    if number != refused {
+        return Err(format!("grow: both answer {number}, the check {refused}"));
+    }
+    if plan.lacks(pair.image().len()) != (0, 0) {
+        pair.met(channels::before(refused, 13));
     }
     Ok(())
 }

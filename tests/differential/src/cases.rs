@@ -1,6 +1,7 @@
 //! One case: an image of one kind, and calls on it.
 
 use crate::blocks;
+use crate::bulks::{self, Course};
 use crate::calls::all_calls;
 use crate::compare::{self, Outcome, Pair};
 use crate::damage::{DAMAGES, Scene, Verdict};
@@ -9,7 +10,7 @@ use crate::draw;
 use crate::history::History;
 use crate::kinds::Kind;
 use crate::model::Model;
-use crate::plan::Plan;
+use crate::plan::{MOST_TIERS, Plan};
 use crate::rng::Rng;
 use crate::settings::Size;
 use crate::tally::Tally;
@@ -60,18 +61,19 @@ fn scene_of(rng: &mut Rng, plan: Plan) -> (Plan, Vec<Vec<u8>>, Model) {
 
 fn history(rng: &mut Rng, tally: &mut Tally) -> Outcome<()> {
     let (plan, keys, model) = scene(rng);
-    let image = model.image(rng);
-    history_on(rng, tally, &plan, &keys, model, image)
+    let grows = *rng.pick(&[0, 2, 8]);
+    history_on(rng, tally, plan, &keys, model, grows)
 }
 
 fn history_on(
     rng: &mut Rng,
     tally: &mut Tally,
-    plan: &Plan,
+    plan: Plan,
     keys: &[Vec<u8>],
     model: Model,
-    image: Vec<u8>,
+    grows: usize,
 ) -> Outcome<()> {
+    let image = model.image(rng);
     let steps = (1_500_000 / image.len()).clamp(8, 160);
     let tight = *rng.pick(&[0, 30, 50, 100]);
     let pair = Pair::new(plan.block(), image, tally);
@@ -81,6 +83,8 @@ fn history_on(
         keys,
         records: model.records,
         tight,
+        grows,
+        course: Course::default(),
         pair,
     }
     .run(steps)
@@ -206,20 +210,25 @@ fn raw(rng: &mut Rng, tally: &mut Tally) -> Outcome<()> {
     all_calls(rng, &plan, &keys, &mut pair, Verdict::Unknown)
 }
 
-/// 1,024 tiers, which is the most, or a bulk more.
+/// As many tiers as an image may have, 1,024 mostly, or a bulk less, with
+/// room for more; or a bulk too many.
 fn most_tiers(rng: &mut Rng, tally: &mut Tally) -> Outcome<()> {
     let mut plan = Plan::random(rng, Size::Tiny);
     plan.segments = 1 << rng.between(0, 8);
-    plan.bulk_tiers = 1 << rng.between(0, 6.min(plan.segments.ilog2() as usize));
+    plan.bulk_tiers = match rng.percent(70) {
+        true => 1 << rng.between(0, 6.min(plan.segments.ilog2() as usize)),
+        false => rng.between(1, 64),
+    };
     plan.bulk_size = plan.bulk_offset + plan.bulk_tiers * plan.tier_size;
-    plan.bulks = (1024 - plan.segments) / plan.bulk_tiers;
-    if plan.store_size() > 1 << 20 {
+    plan.bulks = (MOST_TIERS - plan.segments) / plan.bulk_tiers;
+    plan.bytes_after = rng.below(3) * plan.bulk_size;
+    if plan.store_size() + plan.bytes_after > 1 << 20 {
         return Ok(());
     }
-    if rng.percent(50) {
+    if rng.percent(70) {
+        plan.bulks -= rng.below(2);
         let (plan, keys, model) = scene_of(rng, plan);
-        let image = model.image(rng);
-        return history_on(rng, tally, &plan, &keys, model, image);
+        return history_on(rng, tally, plan, &keys, model, 30);
     }
     plan.bulks += 1;
     let (plan, keys, model) = scene_of(rng, plan);
@@ -228,21 +237,33 @@ fn most_tiers(rng: &mut Rng, tally: &mut Tally) -> Outcome<()> {
     all_calls(rng, &plan, &keys, &mut pair, Verdict::Is(4))
 }
 
-/// An image of the greatest length, or a byte more.
+/// An image of the greatest length, or a byte more. One bulk more may end
+/// with it, or a byte behind it.
 fn longest_image(rng: &mut Rng, tally: &mut Tally) -> Outcome<()> {
-    let plan = Plan::random(rng, Size::Tiny);
-    let (plan, _, model) = scene_of(rng, plan);
-    let mut image = model.image(rng);
+    const LONGEST: usize = 1 << 24;
+    let mut plan = Plan::random(rng, Size::Tiny);
     let too_long = rng.percent(50);
-    image.resize((1 << 24) + usize::from(too_long), 0xEE);
+    if rng.percent(50) {
+        plan.bulks = 0;
+        plan.bulk_size = LONGEST - plan.store_size() + rng.below(2);
+    }
+    let (mut plan, _, model) = scene_of(rng, plan);
+    let mut image = model.image(rng);
+    image.resize(LONGEST + usize::from(too_long), 0xEE);
+    plan.bytes_after = image.len() - plan.store_size();
     let kind = *rng.pick(&[Kind::OnTheSpot, Kind::Tight]);
     let mut pair = Pair::new(plan.block(), image, tally);
     let (number, _) = pair.check()?;
     let expected = if too_long { 4 } else { 0 };
-    match number == expected {
-        true => pair.store(kind, &[1], &[2]).map(|_| ()),
-        false => Err(format!(
+    if number != expected {
+        return Err(format!(
             "check of a long image: {number}, meant was {expected}"
-        )),
+        ));
     }
+    pair.store(kind, &[1], &[2])?;
+    match too_long {
+        true => pair.grow(),
+        false => bulks::add(&mut plan, &mut pair),
+    }
+    .map(|_| ())
 }

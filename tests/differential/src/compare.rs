@@ -112,6 +112,14 @@ impl<'a> Pair<'a> {
         self.settle_edit(7, &format!("set of {a} {b} to {delay}"), ours, theirs)
     }
 
+    pub fn grow(&mut self) -> Outcome<u32> {
+        self.remember();
+        let ours = reference::grow(&self.block, &mut self.ours);
+        let end = self.theirs.len() - GUARD;
+        let theirs = subject::grow(&self.block, &mut self.theirs[GUARD..end]);
+        self.settle_edit(8, "one bulk more", ours, theirs)
+    }
+
     /// Counts that something planned came up.
     pub fn met(&mut self, what: String) {
         *self.tally.met.entry(what).or_default() += 1;

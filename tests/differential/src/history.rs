@@ -1,10 +1,12 @@
 //! Histories of calls on an accepted image, held against a plain map.
 
+mod bulks;
 mod pairs;
 mod stores;
 
 use std::collections::BTreeMap;
 
+use crate::bulks::Course;
 use crate::compare::{Outcome, Pair};
 use crate::draw;
 use crate::live::{self, Live};
@@ -15,11 +17,15 @@ use crate::search_ends::Search;
 
 pub struct History<'a, 'b> {
     pub rng: &'a mut Rng,
-    pub plan: &'a Plan,
+    /// It follows the bulks that are added.
+    pub plan: Plan,
     pub keys: &'a [Vec<u8>],
     pub records: BTreeMap<Vec<u8>, Vec<u8>>,
     /// How many stores of a hundred are tight.
     pub tight: usize,
+    /// How many calls of a hundred add a bulk.
+    pub grows: usize,
+    pub course: Course,
     pub pair: Pair<'b>,
 }
 
@@ -33,6 +39,7 @@ impl History<'_, '_> {
                 stores = *self.rng.pick(&[20, 40, 60, 90]);
             }
             match self.rng.below(100) {
+                _ if self.rng.percent(self.grows) => _ = self.grow()?,
                 _ if self.rng.percent(pair_calls) => self.ask_or_set()?,
                 0..25 => self.lookup()?,
                 25..30 => self.totals()?,
@@ -44,7 +51,10 @@ impl History<'_, '_> {
         self.totals()?;
         self.all_records()?;
         self.all_pairs()?;
-        self.all_entries()
+        self.all_entries()?;
+        let event = self.course.ended();
+        event.into_iter().for_each(|event| self.pair.met(event));
+        Ok(())
     }
 
     fn expect(&self, what: &str, number: u32, expected: u32) -> Outcome<()> {
@@ -55,7 +65,7 @@ impl History<'_, '_> {
     }
 
     fn lookup(&mut self) -> Outcome<()> {
-        let key = draw::offered_key(self.rng, self.plan, self.keys);
+        let key = draw::offered_key(self.rng, &self.plan, self.keys);
         self.lookup_of(&key)
     }
 
@@ -87,7 +97,7 @@ impl History<'_, '_> {
     /// The tier and slot of a lookup that is not refused.
     fn search_end(&mut self, key: &[u8], number: u32, place: [u64; 4]) -> Outcome<()> {
         let search = Search {
-            plan: self.plan,
+            plan: &self.plan,
             image: self.pair.image(),
             key,
         };
@@ -107,7 +117,7 @@ impl History<'_, '_> {
             .nth(self.rng.below(self.records.len() + 1))
         {
             Some(key) if self.rng.percent(70) => key.clone(),
-            _ => draw::offered_key(self.rng, self.plan, self.keys),
+            _ => draw::offered_key(self.rng, &self.plan, self.keys),
         };
         let number = self.pair.remove(&key)?;
         let refused = self.plan.offered_number(key.len(), None);
@@ -122,6 +132,7 @@ impl History<'_, '_> {
             if refused != 0 { refused } else { absent },
         )?;
         if number == 0 {
+            self.course.removed();
             self.low_marks(&key, Deed::Removed)?;
         }
         Ok(())
@@ -130,7 +141,7 @@ impl History<'_, '_> {
     /// What an edit made of the low marks.
     fn low_marks(&mut self, key: &[u8], deed: Deed) -> Outcome<()> {
         let edit = Edit {
-            plan: self.plan,
+            plan: &self.plan,
             before: self.pair.before(),
             after: self.pair.image(),
             segment: self.plan.parts(key).0,
@@ -170,7 +181,7 @@ impl History<'_, '_> {
         let (number, row) = self.pair.entry(n)?;
         let past = n >= self.records.len() as u64;
         self.expect("entry", number, u32::from(past))?;
-        let entries = live::entries(self.plan, self.pair.image());
+        let entries = live::entries(&self.plan, self.pair.image());
         let expected = entries.get(n as usize).map_or([0; 7], Live::row);
         if row != expected {
             return Err(format!("entry {n}: {row:?}, meant was {expected:?}"));

@@ -4,6 +4,7 @@
 #![forbid(unsafe_code)]
 
 mod blocks;
+mod bulks;
 mod calls;
 mod cases;
 mod channels;

@@ -1,6 +1,9 @@
 //! Settings, and where they put things in an image. Written apart from the
 //! reference, so that an error in its addresses shows too.
 
+/// The most tiers of an image.
+pub const MOST_TIERS: usize = 1024;
+
 #[derive(Clone, Debug, Default)]
 pub struct Plan {
     pub global_state: usize,
@@ -71,6 +74,23 @@ impl Plan {
 
     pub fn bulks_start(&self) -> usize {
         self.headers + self.segments * (self.header_size + self.tier_size)
+    }
+
+    /// The bytes that an image of some length lacks for one bulk more, and
+    /// the tiers that would be too many.
+    pub fn lacks(&self, length: usize) -> (usize, usize) {
+        let end = self.store_size() + self.bulk_size;
+        let tiers = self.tiers() + self.bulk_tiers;
+        (end.saturating_sub(length), tiers.saturating_sub(MOST_TIERS))
+    }
+
+    /// For an image that lacks nothing: the bulk is taken from the bytes after.
+    pub fn with_one_more_bulk(&self) -> Plan {
+        Plan {
+            bulks: self.bulks + 1,
+            bytes_after: self.bytes_after - self.bulk_size,
+            ..self.clone()
+        }
     }
 
     pub fn is_main(&self, tier: usize) -> bool {

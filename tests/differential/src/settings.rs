@@ -1,6 +1,6 @@
 //! Random settings over all their ranges, with and without gaps.
 
-use crate::plan::Plan;
+use crate::plan::{MOST_TIERS, Plan};
 use crate::rng::Rng;
 
 /// How large an image may get.
@@ -59,7 +59,7 @@ impl Plan {
             plan.draw_frame(rng, size);
             let length = plan.store_size() + plan.bytes_after;
             let fields_fit = plan.fields().iter().all(|&field| field <= 1 << 24);
-            if length <= size.most_bytes() && plan.tiers() <= 1024 && fields_fit {
+            if length <= size.most_bytes() && plan.tiers() <= MOST_TIERS && fields_fit {
                 return plan;
             }
         }
@@ -155,7 +155,18 @@ impl Plan {
             1 => self.most_bulks(size.most_bytes()),
             _ => rng.between(1, 4),
         };
-        self.bytes_after = gap(rng, 200);
+        self.bytes_after = self.draw_bytes_after(rng);
+    }
+
+    /// Few, or room for further bulks, to the byte, a byte less or some more.
+    fn draw_bytes_after(&self, rng: &mut Rng) -> usize {
+        let bulks = rng.between(1, 3) * self.bulk_size;
+        match rng.below(10) {
+            0..4 => gap(rng, 200),
+            4..7 => bulks,
+            7 => bulks - 1,
+            _ => bulks + gap(rng, 200),
+        }
     }
 
     /// Lowers field 17 to what an entry of `size` bytes takes, or to a chunk
@@ -168,7 +179,7 @@ impl Plan {
     }
 
     fn most_bulks(&self, most_bytes: usize) -> usize {
-        let by_count = (1024 - self.segments) / self.bulk_tiers;
+        let by_count = (MOST_TIERS - self.segments) / self.bulk_tiers;
         let by_size = most_bytes.saturating_sub(self.bulks_start() + 300) / self.bulk_size;
         by_count.min(by_size)
     }

@@ -1,15 +1,19 @@
 //! The implementation under test, with the same calls as the reference.
 
 #[cfg(feature = "self-test")]
-pub use reference::{check, delay, entry, lookup, remove, set_delay, store, store_tight, xxh64};
+pub use reference::{
+    check, delay, entry, grow, lookup, remove, set_delay, store, store_tight, xxh64,
+};
 
 #[cfg(not(feature = "self-test"))]
-pub use library::{check, delay, entry, lookup, remove, set_delay, store, store_tight, xxh64};
+pub use library::{
+    check, delay, entry, grow, lookup, remove, set_delay, store, store_tight, xxh64,
+};
 
 #[cfg(not(feature = "self-test"))]
 mod library {
     use chronicle_map::ffi;
-    pub use chronicle_map::ffi::{remove, set_delay, store, store_tight, xxh64};
+    pub use chronicle_map::ffi::{grow, remove, set_delay, store, store_tight, xxh64};
 
     /// Stands in every number before a call: one that the library forgets
     /// to write shows.

@@ -2,6 +2,7 @@
 
 use std::collections::BTreeMap;
 
+use crate::bulks;
 use crate::channels;
 use crate::compare::Outcome;
 use crate::damage::DAMAGES;
@@ -12,7 +13,7 @@ use crate::on_the_spot;
 use crate::search_ends;
 
 /// The calls, and the numbers that each may answer.
-pub const CALLS: [(&str, &[u32]); 8] = [
+pub const CALLS: [(&str, &[u32]); 9] = [
     ("check", &[0, 2, 3, 4, 5, 6, 7]),
     ("lookup", &[0, 1, 2, 3, 4, 5, 6, 7, 8]),
     ("store", &[0, 2, 3, 4, 5, 6, 7, 8, 9, 10]),
@@ -21,8 +22,9 @@ pub const CALLS: [(&str, &[u32]); 8] = [
     ("entry", &[0, 1, 2, 3, 4, 5, 6, 7]),
     ("delay", &[0, 1, 2, 3, 4, 5, 6, 7, 11, 12]),
     ("set_delay", &[0, 2, 3, 4, 5, 6, 7, 9, 10, 11, 12]),
+    ("grow", &[0, 2, 3, 4, 5, 6, 7, 13]),
 ];
-const NUMBERS: usize = 13;
+const NUMBERS: usize = 14;
 
 #[derive(Default)]
 pub struct Tally {
@@ -32,7 +34,7 @@ pub struct Tally {
     /// How often each planned fault was made.
     pub faults: BTreeMap<&'static str, u64>,
     /// How often what is planned for lengths, low marks, searches, the kinds
-    /// of store and the pair calls came up.
+    /// of store, further bulks and the pair calls came up.
     pub met: BTreeMap<String, u64>,
 }
 
@@ -59,6 +61,7 @@ impl Tally {
         let faults = faults.filter(|name| !self.faults.contains_key(name));
         let planned = channels::planned().into_iter();
         let planned = planned
+            .chain(bulks::planned())
             .chain(lengths::planned())
             .chain(low_marks::planned())
             .chain(on_the_spot::planned())

@@ -22,6 +22,7 @@ pub struct Frame {
     headers: usize,
     main_tiers: usize,
     bulks: usize,
+    bulk_count: usize,
     /// Tiers in all; indexes count from 1 to this.
     pub tiers: usize,
 }
@@ -51,8 +52,27 @@ impl Frame {
             headers: headers as usize,
             main_tiers: main_tiers as usize,
             bulks: bulks as usize,
+            bulk_count: bulk_count as usize,
             tiers: tiers as usize,
         })
+    }
+
+    /// The frame with one bulk more, if so many tiers are allowed and the
+    /// image is long enough. The whole bulk must fit, with what comes before
+    /// and after its tiers, since the store ends with it.
+    pub fn with_one_more_bulk(&self, image: &[u8]) -> Option<Frame> {
+        let grown = Frame {
+            bulk_count: self.bulk_count + 1,
+            tiers: self.tiers + self.settings.bulk_tiers,
+            ..*self
+        };
+        let fits = grown.store_size() <= image.len() && grown.tiers as u64 <= MOST_TIERS;
+        fits.then_some(grown)
+    }
+
+    /// The end of the last bulk, or of the main tiers if there is none.
+    fn store_size(&self) -> usize {
+        self.bulks + self.bulk_count * self.settings.bulk_size
     }
 
     /// The tier of an index from 1 to `tiers`.
@@ -113,5 +133,13 @@ impl Frame {
 
     pub fn set_used(&self, image: &mut [u8], count: u64) {
         put_uint(image, self.settings.global_state + USED.0, USED.1, count);
+    }
+
+    /// Writes the bulk count and the store size, which follow one from the
+    /// other.
+    pub fn set_bulks(&self, image: &mut [u8]) {
+        let state = self.settings.global_state;
+        put_uint(image, state + BULKS.0, BULKS.1, self.bulk_count as u64);
+        put_uint(image, state + STORE_SIZE, 8, self.store_size() as u64);
     }
 }

@@ -1,6 +1,6 @@
 //! An independent implementation of the lent map image: check, lookup,
-//! store (on the spot or tight), remove, list and delays by pair, over a
-//! settings block and an image of any bytes.
+//! store (on the spot or tight), remove, list, one more bulk and delays by
+//! pair, over a settings block and an image of any bytes.
 //!
 //! Every call settles the whole image first (see [`check`]) and works on it
 //! afterwards without a further doubt: what the check has passed is indexed
@@ -14,6 +14,7 @@ mod chains;
 mod check;
 mod edit;
 mod frame;
+mod grow;
 mod hash;
 mod leb128;
 mod pairs;
@@ -42,6 +43,7 @@ mod number {
     pub const FULL: u32 = 10;
     pub const PAIR: u32 = 11;
     pub const DELAY: u32 = 12;
+    pub const BULK: u32 = 13;
 }
 
 /// A number from [`number`] as the failure.
@@ -76,6 +78,12 @@ pub fn store_tight(block: &[u8], image: &mut [u8], key: &[u8], value: &[u8]) -> 
 /// Drops the entry of `key`.
 pub fn remove(block: &[u8], image: &mut [u8], key: &[u8]) -> u32 {
     edit::remove(block, image, key).err().unwrap_or(0)
+}
+
+/// Adds one bulk behind the last. Its tiers are the first of the free chain
+/// from then on; the map stays as it was.
+pub fn grow(block: &[u8], image: &mut [u8]) -> u32 {
+    grow::grow(block, image).err().unwrap_or(0)
 }
 
 /// Segment, tier, slot, first chunk, chunks, key length and value length of

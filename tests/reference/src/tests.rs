@@ -1,5 +1,7 @@
 //! The worked store, the run-only cases, and cases of our own.
 
+mod grow;
+mod grow_settings;
 mod hash_vectors;
 mod low_mark;
 mod on_the_spot;

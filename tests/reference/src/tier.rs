@@ -59,6 +59,14 @@ impl Tier {
         put_uint(image, self.counters + ORDER, 4, order as u64);
     }
 
+    /// Zeros what the counters of an extra tier say, but for its next; the
+    /// reserved bytes behind stay.
+    pub fn clear_counters(&self, image: &mut [u8]) {
+        self.set_standing(image, 0, 0, 0);
+        self.set_lowest_free(image, 0);
+        self.set_entry_count(image, 0);
+    }
+
     pub fn entry_count(&self, image: &[u8]) -> u32 {
         u32_at(image, self.entry_count_at())
     }

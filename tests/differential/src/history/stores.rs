@@ -18,30 +18,39 @@ impl History<'_, '_> {
             true => Kind::Tight,
             false => Kind::OnTheSpot,
         };
-        let key = draw::offered_key(self.rng, self.plan, self.keys);
+        let key = draw::offered_key(self.rng, &self.plan, self.keys);
         let value = self.value_for(&key);
+        let number = self.store_of(kind, &key, &value)?;
+        if number == 10 && self.grows > 0 && self.rng.percent(50) {
+            self.again_after_a_bulk(kind, &key, &value)?;
+        }
+        Ok(())
+    }
+
+    pub fn store_of(&mut self, kind: Kind, key: &[u8], value: &[u8]) -> Outcome<u32> {
         let refused = self.plan.offered_number(key.len(), Some(value.len()));
         let place = if refused == 0 {
-            self.place_for(kind, &key, &value)
+            self.place_for(kind, key, value)
         } else {
             None
         };
-        let number = self.pair.store(kind, &key, &value)?;
+        let number = self.pair.store(kind, key, value)?;
         let full = if place.is_none() { 10 } else { 0 };
         let expected = if refused != 0 { refused } else { full };
         self.expect(kind.name(), number, expected)?;
-        self.not_full(&key, &value, number)?;
-        if kind == Kind::Tight && self.records.contains_key(&key) {
-            self.is_removed_first(&key, &value, number)?;
+        self.not_full(key, value, number)?;
+        if kind == Kind::Tight && self.records.contains_key(key) {
+            self.is_removed_first(key, value, number)?;
         }
         match place {
-            Some(place) => self.stored(kind, key, value, place),
-            None => self.refused_alike(kind, &key, &value, number),
+            Some(place) => self.stored(kind, key.to_vec(), value.to_vec(), place)?,
+            None => self.refused_alike(kind, key, value, number)?,
         }
+        Ok(number)
     }
 
     fn value_for(&mut self, key: &[u8]) -> Vec<u8> {
-        let (rng, plan) = (&mut *self.rng, self.plan);
+        let (rng, plan) = (&mut *self.rng, &self.plan);
         match self.records.get(key) {
             Some(value) if rng.percent(5) => value.clone(),
             Some(value) if rng.percent(30) => {
@@ -74,7 +83,7 @@ impl History<'_, '_> {
 
     /// Tier and chunk that a store must choose.
     pub fn place_for(&self, kind: Kind, key: &[u8], value: &[u8]) -> Option<(usize, usize)> {
-        let (plan, image) = (self.plan, self.pair.image());
+        let (plan, image) = (&self.plan, self.pair.image());
         if kind == Kind::OnTheSpot && self.is_as_many(key, value) {
             let old = live::entry_of(plan, image, key)?;
             return Some((old.tier, old.chunk));
@@ -112,6 +121,8 @@ impl History<'_, '_> {
         place: (usize, usize),
     ) -> Outcome<()> {
         self.stands_at(&key, &value, place)?;
+        self.course.stored(kind == Kind::Tight);
+        self.joined(place.0);
         for length in lengths::brought(key.len(), value.len()) {
             self.pair.met(length);
         }
@@ -136,7 +147,7 @@ impl History<'_, '_> {
             return self.search_end(key, number, found);
         }
         let search = Search {
-            plan: self.plan,
+            plan: &self.plan,
             image: self.pair.before(),
             key,
         };
@@ -155,7 +166,7 @@ impl History<'_, '_> {
             Kind::Tight => (&other[..], self.pair.image()),
         };
         let kinds = Kinds {
-            plan: self.plan,
+            plan: &self.plan,
             before,
             on_the_spot,
             tight,

@@ -11,12 +11,12 @@ use super::worked_store::{
 };
 use crate::{check, entry, lookup, remove, store, store_tight};
 
-type Records = BTreeMap<[u8; 2], Vec<u8>>;
+pub type Records = BTreeMap<[u8; 2], Vec<u8>>;
 
 /// Keys and records of an image with X's tiers, by the list. No key is there
 /// twice.
 #[track_caller]
-fn records(image: &[u8]) -> Records {
+pub fn records(image: &[u8]) -> Records {
     let mut records = Records::new();
     for n in 0.. {
         let (number, line) = entry(&block(), image, n);
@@ -40,7 +40,7 @@ fn chunks_for(length: usize) -> usize {
 
 /// The records as they are looked up, and the check's entries and chunks.
 #[track_caller]
-fn reads_as(image: &[u8], map: &Records) {
+pub fn reads_as(image: &[u8], map: &Records) {
     assert_eq!(&records(image), map);
     let chunks: usize = map.values().map(|record| chunks_for(record.len())).sum();
     let (number, counts) = check(&block(), image);
@@ -54,7 +54,7 @@ fn reads_as(image: &[u8], map: &Records) {
 }
 
 /// Images with one tier and with two, with gaps in both and marks that lag.
-fn images() -> Vec<Vec<u8>> {
+pub fn images() -> Vec<Vec<u8>> {
     let mut gaps = after_p6();
     for key in [[1, 2], [1, 3]] {
         assert_eq!(remove(&block(), &mut gaps, &key), 0);
@@ -183,7 +183,7 @@ fn refuses(block: &[u8], image: &[u8], key: &[u8], record: &[u8], number: u32) {
 }
 
 /// Blocks and images with the number that they are refused with.
-fn refused_inputs() -> Vec<(u32, Vec<u8>, Vec<u8>)> {
+pub fn refused_inputs() -> Vec<(u32, Vec<u8>, Vec<u8>)> {
     let mut version = block();
     version[2] = 0;
     let mut fields = FIELDS;
@@ -242,10 +242,10 @@ fn both_kinds_refuse_with_9() {
 }
 
 /// A generator of numbers, the same ones in each run.
-struct Chance(u64);
+pub struct Chance(pub u64);
 
 impl Chance {
-    fn below(&mut self, limit: u64) -> usize {
+    pub fn below(&mut self, limit: u64) -> usize {
         self.0 = self.0.wrapping_mul(0x5851_F42D_4C95_7F2D).wrapping_add(1);
         ((self.0 >> 33) % limit) as usize
     }
