@@ -2,11 +2,12 @@
 use Prim.Native.Nat.{ℕ, _<_}
 use mathlib.Core.List.{List}
 use mathlib.Core.Path.{_≡_, refl, ap, sym, _∙_, subst}
-use mathlib.Core.Logic.{_≢_}
+use mathlib.Core.Logic.{⊎-elim, _≢_}
 use mathlib.Core.Bool.{Bool, true, false}
 use mathlib.Core.Option.{Option, none, some}
 use native.Mathlib.Omega.{arith}
 use lib.ListN.{length}
+use Rattle.lists.specs.Cases.{same-or}
 use Rattle.lists.specs.Lists.{first}
 use Rattle.lists.proofs.SameLists.{same-first}
 use Rattle.words.specs.Bytes.{Bytes, same, Apart}
@@ -34,8 +35,11 @@ use Rattle.edit.specs.Edits.{find}
 use Rattle.edit.proofs.Roomy.{room-when-free}
 use Rattle.chronicle_map.specs.declared.Located.the-variants as looked
 use Rattle.chronicle_map.specs.Calls.{endIn, searchEnd, fromFind, lookup, Edited, answerNumber, store, growUnless, growing, grow}
+use Rattle.chronicle_map.specs.History.{grows, leaves, mapOf}
 use Rattle.chronicle_map.specs.Demands.{shape, Accepted, Grown, Growth}
 use Rattle.chronicle_map.proofs.Accepting.{Holds, accepted-holds, holds-ready, holds-accepted, shape-by, holds-by, map-by}
+use Rattle.chronicle_map.proofs.Steps.{step}
+use Rattle.chronicle_map.proofs.Refusing.{demand1}
 use Rattle.chronicle_map.proofs.Altering.{lookup-is, lookup-misfit}
 use Rattle.chronicle_map.proofs.Replacing.{not-10}
 
@@ -143,4 +147,25 @@ growth block img b a =
       refused = answer-by block img h true;
       done = answer-by block img h false;
       grown = grown-by block img h (noBulk (shape block img) (length img)) refl;
+    }
+
+-- ---- whatever it answers, the image is accepted and reads as the same map
+
+pub record KeepsMap (block img after : List ℕ) : Type 0 where
+  pub bytes : Bytes after
+  pub accepted : Accepted block after
+  pub sameMap : mapOf block after ≡ mapOf block img
+
+pub grow-keeps : (block img : List ℕ) → Bytes img → Accepted block img → KeepsMap block img (grow block img .image)
+unfolding leaves
+grow-keeps block img b a =
+    let after : Holds block (grow block img .image) = step block img (accepted-holds block img b a) (mapOf block img) (λ F. refl) grows tt .holds in
+    record {
+      bytes = after .sound .bytes;
+      accepted = holds-accepted block (grow block img .image) after;
+      sameMap =
+          ⊎-elim
+          (λ z. growth block img b a .grown z .sameMap)
+          (λ ne. ap (mapOf block) (demand1 block img .growRefused ne))
+          (same-or (answerNumber (grow block img .answer)) 0);
     }

@@ -1,19 +1,17 @@
 -- The chains after a bulk was added: the segments' are as they were, and the new tiers stand in a row before the old free ones.
 use Prim.Native.Nat.{ℕ, suc, _+_, _-_, _*_, _≤_, _<_}
-use mathlib.Core.List.{List, _∷_, _++_, List·Memᴰ, List·Memᴰ·append-cases}
-use mathlib.Core.Path.{_≡_, ap, sym, _∙_, subst}
+use mathlib.Core.List.{List, _++_, List·Memᴰ·append-cases}
+use mathlib.Core.Path.{_≡_, ap, sym, _∙_}
 use mathlib.Core.Logic.{⊎-elim}
 use native.Mathlib.Omega.{arith}
 use lib.Dec.{eqb}
-use lib.ListN.{length, getD, drop}
+use lib.ListN.{length}
 use Rattle.lists.specs.Cases.{lt-or}
-use Rattle.lists.specs.Lists.{span, below, howMany}
-use Rattle.lists.specs.Quantify.{Below, Every}
-use Rattle.lists.proofs.Lists.{in-span, span-in, member, howMany-append}
+use Rattle.lists.specs.Lists.{span, howMany}
+use Rattle.lists.specs.Quantify.{Every}
+use Rattle.lists.proofs.Lists.{in-span, span-in, howMany-append}
 use Rattle.lists.proofs.Rows.{howMany-span-before, howMany-span-in}
-use Rattle.lists.proofs.Members.{flatMap-in}
 use Rattle.lists.proofs.Counted.{stranger-unmet}
-use Rattle.lists.proofs.SameLists.{same-flatMap}
 use Rattle.links.specs.Links.{Linked}
 use Rattle.links.proofs.Runs.{run-from, run-same}
 use Rattle.links.proofs.Edits.{linked-block}
@@ -22,11 +20,13 @@ use Rattle.layout.specs.declared.Shape.{Shape}
 use Rattle.layout.specs.Tiers.{tiers, IsTier, IsExtra}
 use Rattle.layout.specs.Places.{Counter, nextTier, next, previous, segment, order, usedTiers, global, tier, counter, sharedPlace, get}
 use Rattle.layout.proofs.Places.{kind, shared-in, shared-extra, shared-kind}
-use Rattle.chains.specs.Chains.{nextOf, chain, freeHead, freeChain, chainedExtra, StandsAt, ChainFits, Once, ChainsFit}
-use Rattle.chains.proofs.Tiers.{chain-tiers, free-tiers}
-use Rattle.chains.proofs.Linked.{linked-chain, linked-free, chain-linked, free-linked, linked-ends}
+use Rattle.chains.specs.Chains.{nextOf, chain, freeHead, freeChain, chainedExtra, Once, ChainsFit}
+use Rattle.chains.proofs.Tiers.{free-tiers}
+use Rattle.chains.proofs.Linked.{linked-free, free-linked, linked-ends}
+use Rattle.chains.proofs.Counts.{extras-in}
+use Rattle.chains.proofs.AgreeChains.{SameLinks, extra-more, links-chain, links-extras, links-fit}
 use Rattle.growing.specs.Growing.{grown, newTier}
-use Rattle.growing.proofs.Reshaped.{tiers-grown, tier-grown, extra-grown, new-extra}
+use Rattle.growing.proofs.Reshaped.{tiers-grown, new-extra}
 use Rattle.growing.proofs.NewTiers.{after-last, after-other, newNext, Grows}
 
 -- numbers of a row each stand once in two lists, and so do those of a longer row where its end is put in between
@@ -69,36 +69,13 @@ module _ (z : Shape) (img img′ : List ℕ) (fits : ChainsFit z img) (some : 1 
   counter-kept : (f : Counter) (u : ℕ) → IsTier z u → get (grown z) img′ (tier u (counter f)) ≡ get z img (tier u (counter f))
   counter-kept f u is = g .kept (tier u (counter f)) (is, tt) (omega arith)
 
+  links : SameLinks z (bulks + 1) img img′
+  links = record { nexts = next-kept; previous = counter-kept previous; segment = counter-kept segment; order = counter-kept order }
+
   -- ---- the segments' chains
 
-  chain-now : (s : ℕ) → s < segments → Linked (nextOf (grown z) img′) (suc s) (chain z img s)
-  chain-now s h = run-same (λ u m. next-kept u (chain-tiers z img fits s h u m)) (linked-chain z img s (fits .segmentsFit s h))
-
-  still-tiers : (s : ℕ) → s < segments → Every (chain z img s) (IsTier (grown z))
-  still-tiers s h u m = tier-grown z u (chain-tiers z img fits s h u m)
-
-  pub grown-chain : (s : ℕ) → s < segments → chain (grown z) img′ s ≡ chain z img s
-  grown-chain s h = chain-linked (grown z) img′ s (still-tiers s h) (chain-now s h)
-
-  still-stands : (s i t u : ℕ) → IsTier z t → StandsAt z img s i t u → StandsAt (grown z) img′ s i t u
-  still-stands s i t u is f =
-      record {
-        segmentIs = counter-kept segment t is ∙ f .segmentIs;
-        orderIs = counter-kept order t is ∙ f .orderIs;
-        previousIs = counter-kept previous t is ∙ f .previousIs;
-      }
-
-  chain-still : (s : ℕ) → s < segments → ChainFits (grown z) img′ s
-  chain-still s h =
-      let f : ChainFits z img s = fits .segmentsFit s h in
-      let e : chain z img s ≡ chain (grown z) img′ s = sym (grown-chain s h) in
-      let stands : Below (length (chain z img s)) (λ i. StandsAt (grown z) img′ s i (getD (chain z img s) i 0) (getD (0 ∷ chain z img s) i 0)) =
-      λ i l. still-stands s i _ _ (chain-tiers z img fits s h _ (member (chain z img s) i l)) (f .standing i l) in
-      record {
-        extras = subst (λ (l : List ℕ). Every (drop 1 l) (IsExtra (grown z))) e (λ u m. extra-grown z u (f .extras u m));
-        standing = subst (λ (l : List ℕ). Below (length l) (λ i. StandsAt (grown z) img′ s i (getD l i 0) (getD (0 ∷ l) i 0))) e stands;
-        ends = linked-ends (grown z) img′ (still-tiers s h) (chain-now s h);
-      }
+  pub grown-chain : (s : ℕ) → s < z .settings .segments → chain (grown z) img′ s ≡ chain z img s
+  grown-chain = links-chain z (bulks + 1) (omega arith) img img′ fits links
 
   -- ---- the free chain
 
@@ -122,7 +99,7 @@ module _ (z : Shape) (img img′ : List ℕ) (fits : ChainsFit z img) (some : 1 
   free-extras u m =
       ⊎-elim
       (λ c. omega (arith, span-in (suc (tiers z)) bulkTiers u c))
-      (λ c. extra-grown z u (fits .freeFits .extras u c))
+      (λ c. extra-more z (bulks + 1) (omega arith) u (fits .freeFits .extras u c))
       (List·Memᴰ·append-cases (span (suc (tiers z)) bulkTiers) m)
 
   free-tiers-now : Every newFree (IsTier (grown z))
@@ -134,21 +111,7 @@ module _ (z : Shape) (img img′ : List ℕ) (fits : ChainsFit z img) (some : 1 
   -- ---- the whole
 
   same-extras : chainedExtra (grown z) img′ ≡ chainedExtra z img
-  unfolding chainedExtra
-  same-extras =
-      same-flatMap (λ s. drop 1 (chain (grown z) img′ s)) (λ s. drop 1 (chain z img s)) (below segments)
-      (λ s m. ap (drop 1) (grown-chain s (omega (arith, span-in 0 segments s m))))
-
-  old-extras : Every (chainedExtra z img ++ freeChain z img) (IsExtra z)
-  unfolding chainedExtra
-  old-extras u m =
-      ⊎-elim
-      (λ c.
-      let r : (s : ℕ) × List·Memᴰ s (below segments) × List·Memᴰ u (drop 1 (chain z img s)) =
-      flatMap-in (λ s. drop 1 (chain z img s)) (below segments) c in
-      fits .segmentsFit (r .0) (omega (arith, span-in 0 segments (r .0) (r .1))) .extras u (r .2))
-      (λ c. fits .freeFits .extras u c)
-      (List·Memᴰ·append-cases (chainedExtra z img) m)
+  same-extras = links-extras z (bulks + 1) (omega arith) img img′ fits links
 
   once-again : Every (span (suc segments) ((bulks + 1) * bulkTiers)) (Once (grown z) img′)
   unfolding tiers
@@ -157,12 +120,12 @@ module _ (z : Shape) (img img′ : List ℕ) (fits : ChainsFit z img) (some : 1 
       let first : suc (tiers z) ≡ suc segments + bulks * bulkTiers = omega arith in
       rw (all, grown-free, same-extras, first)
       (once-longer (chainedExtra z img) (freeChain z img) (suc segments) (bulks * bulkTiers) bulkTiers
-      (λ u m. let x : IsExtra z u = old-extras u m in omega arith) (fits .once))
+      (λ u m. let x : IsExtra z u = extras-in z img fits u m in omega arith) (fits .once))
 
   pub grown-chains : ChainsFit (grown z) img′
   grown-chains =
       record {
-        segmentsFit = chain-still;
+        segmentsFit = links-fit z (bulks + 1) (omega arith) img img′ fits links;
         freeFits = record { extras = rw grown-free free-extras; ends = linked-ends (grown z) img′ free-tiers-now free-now };
         once = once-again;
         usedIs = g .kept (global usedTiers) tt (omega arith) ∙ fits .usedIs ∙ ap length (sym same-extras);

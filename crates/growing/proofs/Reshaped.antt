@@ -14,6 +14,7 @@ use Rattle.layout.specs.Tiers.{tiers, mains, bulksAt, storeEnd, extraAt, tierAt
 use Rattle.layout.specs.Places.{slot, counter, free, byte, Place, global, header, tier, partAt, partWide, at, wide, In, get}
 use Rattle.layout.specs.Frame.{Bounded, Framed, mostTiers}
 use Rattle.layout.proofs.Bounds.{framed-bounded}
+use Rattle.chains.proofs.AgreeChains.{tier-more}
 use Rattle.growing.specs.Growing.{grown, noBulk, newTier}
 
 module _ (z : Shape) where
@@ -30,11 +31,8 @@ module _ (z : Shape) where
   unfolding storeEnd bulksAt mains
   end-grown = omega arith
 
-  pub tier-grown : (u : ℕ) → IsTier z u → IsTier (grown z) u
-  tier-grown u h = omega (arith, tiers-grown)
-
-  pub extra-grown : (u : ℕ) → IsExtra z u → IsExtra (grown z) u
-  extra-grown u h = omega (arith, tiers-grown)
+  tier-grown : (u : ℕ) → IsTier z u → IsTier (grown z) u
+  tier-grown = tier-more z (z .bulks + 1) (omega arith)
 
   -- those of the new bulk
   pub new-extra : (k : ℕ) → k < bulkTiers → IsExtra (grown z) (newTier z k)

@@ -30,7 +30,7 @@ use Rattle.sound.proofs.Sound.{sound-image}
 use Rattle.growing.specs.Growing.{grown, noBulk, newTier, growImage, IsNew}
 use Rattle.growing.proofs.Reshaped.{tiers-grown, room-framed}
 use Rattle.growing.proofs.NewTiers.{HoldsNothing, Grows, grow-grows}
-use Rattle.growing.proofs.Chains as chains
+use Rattle.growing.proofs.Chains.{grown-chain, grown-free, grown-chains}
 use Rattle.growing.proofs.Tiers.{grown-slots, grown-marks, grown-counters, grown-nothing, grown-liveIn, grown-empty, grown-full, grown-key, grown-pair}
 
 module _ (z : Shape) (img : List ℕ) (sound : SoundImage z img) (room : noBulk z (length img) ≡ false) where
@@ -50,10 +50,10 @@ module _ (z : Shape) (img : List ℕ) (sound : SoundImage z img) (room : noBulk 
   -- ---- the chains
 
   pub grow-chain : (s : ℕ) → s < segments → chain (grown z) (growImage z img) s ≡ chain z img s
-  grow-chain = chains.grown-chain z img (growImage z img) (sound .fits .chains) some grows
+  grow-chain = grown-chain z img (growImage z img) (sound .fits .chains) some grows
 
   pub grow-free : freeChain (grown z) (growImage z img) ≡ span (suc (tiers z)) bulkTiers ++ freeChain z img
-  grow-free = chains.grown-free z img (growImage z img) (sound .fits .chains) some grows
+  grow-free = grown-free z img (growImage z img) (sound .fits .chains) some grows
 
   pub grow-head : freeHead (grown z) (growImage z img) ≡ suc (tiers z)
   grow-head = grows .headIs
@@ -149,7 +149,7 @@ module _ (z : Shape) (img : List ℕ) (sound : SoundImage z img) (room : noBulk 
         fits = record {
           valid = sound .fits .valid;
           frame = frame-now;
-          chains = chains.grown-chains z img (growImage z img) (sound .fits .chains) some grows;
+          chains = grown-chains z img (growImage z img) (sound .fits .chains) some grows;
           entries = entries-now;
           chunks = chunks-now;
         };

@@ -1,4 +1,4 @@
--- Any list of asks and sets on an accepted image: the two orders of a pair have opposite delays.
+-- Any list of asks, sets and grows on an accepted image: the two orders of a pair have opposite delays.
 use Prim.Native.Nat.{ℕ, suc, _+_}
 use mathlib.Core.List.{List, [], _∷_, _++_, append-assoc}
 use mathlib.Core.Path.{_≡_, refl, ap, sym, _∙_, subst}
@@ -13,12 +13,14 @@ use mir.Val.{SFits}
 use Rattle.lists.specs.Decide.{choose}
 use Rattle.words.specs.Bytes.{Bytes}
 use Rattle.entries.specs.Pairs.{Pair}
-use Rattle.chronicle_map.specs.History.{mapOf, mapGet}
+use Rattle.chronicle_map.specs.Calls.{grow}
+use Rattle.chronicle_map.specs.History.{Map, mapOf, mapGet}
 use Rattle.chronicle_map.specs.Demands.{Accepted}
+use Rattle.chronicle_map.proofs.Growing.{KeepsMap, grow-keeps}
 use Rattle.pairs.specs.declared.Asked.{Asked}
 use Rattle.pairs.specs.Pairs.{ChannelsFit, channelsFit?, pairKey, delayRecord, recordDelay, mostNegative, RecordFits, recordFits?, inOrder}
 use Rattle.pairs.specs.Delays.{fromRecord, delay, Reply, askedReply, setDelay, setNumber}
-use Rattle.pairs.specs.History.{PairCall, asks, sets, numbered, replies, pairLeaves, pairRun, pairReplies, reply, NoSet, SignsKept}
+use Rattle.pairs.specs.History.{PairCall, asks, sets, grows, numbered, replies, pairLeaves, pairRun, pairReplies, reply, NoSet, SignsKept}
 use Rattle.pairs.proofs.Orders.{key-either, sign-either, sign-twice}
 use Rattle.pairs.proofs.Answering.{record-yes}
 use Rattle.pairs.proofs.Records.{record-back, record-fits, sign-fits, sign-not}
@@ -58,10 +60,14 @@ module _ (block : List ℕ) where
   known-after : (img : List ℕ) → AcceptedBytes block img → (a b : ℕ) (d : ℤ) → AfterSet block img a b d (setDelay block img a b d)
   known-after img k a b d = after-set block img (k .bytes) (k .accepted) a b d
 
+  known-grown : (img : List ℕ) → AcceptedBytes block img → KeepsMap block img (grow block img .image)
+  known-grown img k = grow-keeps block img (k .bytes) (k .accepted)
+
   accepted-leaves : (img : List ℕ) → AcceptedBytes block img → (c : PairCall) → AcceptedBytes block (pairLeaves block img c)
   unfolding pairLeaves
   accepted-leaves img k (asks a b) = k
   accepted-leaves img k (sets a b d) = record { bytes = known-after img k a b d .bytes; accepted = known-after img k a b d .accepted }
+  accepted-leaves img k grows = record { bytes = known-grown img k .bytes; accepted = known-grown img k .accepted }
 
   accepted-run : (calls : List PairCall) (img : List ℕ) → AcceptedBytes block img → AcceptedBytes block (pairRun block img calls)
   unfolding pairRun
@@ -77,6 +83,9 @@ module _ (block : List ℕ) where
   same-record a b (sets c d x ∷ cs) img k none-set =
       same-record a b cs (setDelay block img c d x .image) (accepted-leaves img k (sets c d x)) (none-set .1)
       ∙ known-after img k c d x .others (pairKey a b) (λ (e : pairKey a b ≡ pairKey c d). none-set .0 (sym e))
+  same-record a b (grows ∷ cs) img k none-set =
+      same-record a b cs (grow block img .image) (accepted-leaves img k grows) none-set
+      ∙ ap (λ (m : Map). mapGet m (pairKey a b)) (known-grown img k .sameMap)
 
 -- ---- what the map has, asked in the two orders
 

@@ -1,4 +1,4 @@
--- A list of asks and sets run over an image, and what is claimed of it.
+-- A list of asks, sets and grows run over an image, and what is claimed of it.
 use Prim.Native.Nat.{ℕ, suc, _+_}
 use mathlib.Core.List.{List, [], _∷_, _++_, List·Memᴰ}
 use mathlib.Core.Path.{_≡_}
@@ -7,6 +7,7 @@ use lib.ListN.{length, getD}
 use lib.IntN.{ℤ, pos, negℤ, _+ℤ_}
 use mir.Syntax.{w32}
 use mir.Val.{SFits}
+use Rattle.chronicle_map.specs.Calls.{answerNumber, grow}
 use Rattle.chronicle_map.specs.Demands.{Accepted}
 use Rattle.pairs.specs.Pairs.{pairKey}
 use Rattle.pairs.specs.Delays.{delay, Reply, askedReply, setDelay, setNumber}
@@ -14,8 +15,9 @@ use Rattle.pairs.specs.Delays.{delay, Reply, askedReply, setDelay, setNu
 pub data PairCall : Type 0 where
   asks : ℕ → ℕ → PairCall
   sets : ℕ → ℕ → ℤ → PairCall
+  grows : PairCall
 
--- what a set replies: its number, and no delay
+-- what a set or a grow replies: its number, and no delay
 abbrev pub numbered : ℕ → Reply
 numbered n = record { number = n; delay = pos 0 }
 
@@ -24,10 +26,12 @@ module _ (block : List ℕ) where
   unfoldable pub replies : List ℕ → PairCall → Reply
   replies img (asks a b) = askedReply (delay block img a b)
   replies img (sets a b d) = numbered (setNumber (setDelay block img a b d .answer))
+  replies img grows = numbered (answerNumber (grow block img .answer))
 
   unfoldable pub pairLeaves : List ℕ → PairCall → List ℕ
   pairLeaves img (asks a b) = img
   pairLeaves img (sets a b d) = setDelay block img a b d .image
+  pairLeaves img grows = grow block img .image
 
   -- a list of calls, each on the image as the last one left it
   unfoldable pub pairRun : List ℕ → List PairCall → List ℕ
@@ -42,13 +46,14 @@ module _ (block : List ℕ) where
   abbrev pub reply : List ℕ → List PairCall → ℕ → Reply
   reply img calls i = getD (pairReplies img calls) i (numbered 1)
 
--- no set of this pair, in either order, is among the calls; sets of other pairs may be
+-- no set of this pair, in either order, is among the calls; sets of other pairs and grows may be
 abbrev pub NoSet : ℕ → ℕ → List PairCall → Type 0
 NoSet a b [] = Unit {0}
 NoSet a b (asks c d ∷ cs) = NoSet a b cs
 NoSet a b (sets c d x ∷ cs) = (pairKey c d ≢ pairKey a b) × NoSet a b cs
+NoSet a b (grows ∷ cs) = NoSet a b cs
 
--- whatever the two calls are given: the numbers that they may answer; with any number but 0 an ask's delay is 0, and a set leaves every byte as it was
+-- whatever an ask and a set are given: the numbers that they may answer; with any number but 0 an ask's delay is 0, and a set leaves every byte as it was
 pub record Refusals (block img : List ℕ) : Type 0 where
   pub askAnswers : (a b : ℕ) → List·Memᴰ (askedReply (delay block img a b) .number) (0 ∷ 1 ∷ 2 ∷ 3 ∷ 4 ∷ 5 ∷ 6 ∷ 7 ∷ 11 ∷ 12 ∷ [])
   pub setAnswers : (a b : ℕ) (d : ℤ)
