@@ -30,6 +30,7 @@ use Rattle.sound.specs.Sound.{SoundImage}
 use Rattle.growing.specs.Growing.{grown, noBulk, growImage}
 use Rattle.growing.proofs.Sound.{grow-sound, grow-chain, grow-free, grow-head, grow-live, grow-pair, grow-pairs, grow-last, grow-empty, grow-bits}
 use Rattle.growing.proofs.Bytes.{getD-grow-out}
+use Rattle.image.specs.List.{pick, fromNth, fromExamined, entry}
 use Rattle.edit.specs.declared.Policy.{Policy}
 use Rattle.edit.specs.Edits.{find}
 use Rattle.edit.proofs.Roomy.{room-when-free}
@@ -99,6 +100,13 @@ module _ (block img : List ℕ) (h : Holds block img) where
         ∙ from-same key (find z img key)
         ∙ sym (lookup-is block img h key k)
 
+    list-same : (n : ℕ) → entry block after n ≡ entry block img n
+    unfolding entry fromExamined
+    list-same n =
+        ap (fromExamined after n) (holds-ready block after after-holds)
+        ∙ ap (λ (l : List Live). fromNth (pick l n)) (ap (λ (x : Shape). live x after) (sym shape-is) ∙ grow-live z img (h .sound) room)
+        ∙ sym (ap (fromExamined img n) (holds-ready block img h))
+
     -- ---- a tier is free
 
     some-free : freeHead (shape block after) after ≢ 0
@@ -119,6 +127,7 @@ module _ (block img : List ℕ) (h : Holds block img) where
           accepted = holds-accepted block after after-holds;
           sameMap = sym (map-by (h .blockFits) (shape-settings (settingsOf block) img) after-sound) ∙ grow-pairs z img (h .sound) room;
           lookups = λ key. lookup-same key (keyFits? (z .settings) key);
+          lists = list-same;
           oneMore = sym shape-is;
           sameChains = λ s l. ap (λ (x : Shape). chain x after s) (sym shape-is) ∙ grow-chain z img (h .sound) room s l;
           freeTiers = ap (λ (x : Shape). freeChain x after) (sym shape-is) ∙ grow-free z img (h .sound) room;

@@ -216,10 +216,11 @@ pub record Replacements (block img : List ℕ) : Type 0 where
 
 -- what a grow answered 0 leaves
 pub record Grown (block img after : List ℕ) : Type 0 where
-  -- it reads as the same map, and every lookup answers as before, tier and slot included
+  -- it reads as the same map; every lookup and the list answer as before, tier and slot included
   pub accepted : Accepted block after
   pub sameMap : mapOf block after ≡ mapOf block img
   pub lookups : (key : List ℕ) → lookup block after key ≡ lookup block img key
+  pub lists : (n : ℕ) → entry block after n ≡ entry block img n
   -- there is one bulk more; the segments' chains stay, and the free tiers are the new ones in ascending order, then the old ones
   pub oneMore : shape block after ≡ grown (shape block img)
   pub sameChains : Below (settingsOf block .segments) (λ s. chain (shape block after) after s ≡ chain (shape block img) img s)

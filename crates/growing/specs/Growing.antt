@@ -58,12 +58,12 @@ module _ (z : Shape) (img : List ℕ) where
   open Shape z using (settings, bulks)
   open Settings settings using (bulkTiers)
 
-  -- its first n tiers
+  -- the image with the first n tiers of the new bulk emptied and linked
   unfoldable pub newTiers : ℕ → List ℕ
   newTiers zero = img
   newTiers (suc n) = emptyTier (grown z) (newTiers n) (newTier z n) (afterNew (newTier z n) (tiers (grown z)) (freeHead z img))
 
-  -- all of them; bulk count, first free tier and store size follow
+  -- the image after it: all of them, and bulk count, first free tier and store size follow
   unfoldable pub growImage : List ℕ
   growImage =
       puts (grown z) (newTiers bulkTiers) (
