@@ -185,7 +185,8 @@ module _ (policy : Policy) (block img key value : List ℕ) {x : Examined} (ex :
 -- ---- one bulk more
 
 module _ (z : Shape) (img : List ℕ) where
-  pub grow-full : {b : Bool} → b ≡ noBulk z (length img) → b ≡ true → record { answer = answer.NoBulk; image = img } ≡ growUnless z img (noBulk z (length img))
+  pub grow-full : {b : Bool} → b ≡ noBulk z (length img) → b ≡ true
+      → record { answer = answer.NoBulk; image = img } ≡ growUnless z img (noBulk z (length img))
   unfolding growUnless
   grow-full e t = ap (growUnless z img) (sym t ∙ e)
 

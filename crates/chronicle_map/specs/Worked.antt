@@ -276,8 +276,8 @@ cases =
     ∷ case (longX 199) [] (changes (grows ∷ [])) []
     -- with room: bulk count, first free tier and store size; used stays 0
     ∷ case (longX 200) (grows ∷ []) answered (0 ∷ [])
-    ∷ case (longX 200) (grows ∷ []) (bytes 8 25)
-    (2 ∷ 0 ∷ 0 ∷ 3 ∷ 0 ∷ 0 ∷ 0 ∷ 0 ∷ 0 ∷ 0 ∷ 0 ∷ 0 ∷ 0 ∷ 64 ∷ 0 ∷ 0 ∷ 0 ∷ 184 ∷ 2 ∷ 0 ∷ 0 ∷ 0 ∷ 0 ∷ 0 ∷ 0 ∷ [])
+    ∷ case (longX 200) (grows ∷ []) (bytes 8 13) (2 ∷ 0 ∷ 0 ∷ 3 ∷ 0 ∷ 0 ∷ 0 ∷ 0 ∷ 0 ∷ 0 ∷ 0 ∷ 0 ∷ 0 ∷ [])
+    ∷ case (longX 200) (grows ∷ []) (bytes 21 12) (64 ∷ 0 ∷ 0 ∷ 0 ∷ 184 ∷ 2 ∷ 0 ∷ 0 ∷ 0 ∷ 0 ∷ 0 ∷ 0 ∷ [])
     -- the slots of tier 3, its next, its counters 8..35, its free list; the gap, counters 36..63 and the chunks stay
     ∷ case (longX 200) (grows ∷ []) (bytes 496 64) (replicate 16 0 ++ replicate 48 255)
     ∷ case (longX 200) (grows ∷ []) (bytes 560 64) ((2 ∷ replicate 7 0) ++ replicate 28 0 ++ replicate 28 255)

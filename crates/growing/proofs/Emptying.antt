@@ -124,7 +124,8 @@ module _ {z : Shape} {img : List ℕ} (im : Image z img) (t u : ℕ) (it : IsTie
   counted-image = image-puts emptied-image ((tier t (counter next) ≔ u) ∷ zeroWrites t)
 
   -- they are other places than p
-  zeros-spare : (p : Place) → ((f : Counter) → counterNo f ≢ 0 → p ≢ tier t (counter f)) → Every (zeroWrites t) (λ w. In z (written w) × (p ≢ written w))
+  zeros-spare : (p : Place) → ((f : Counter) → counterNo f ≢ 0 → p ≢ tier t (counter f))
+      → Every (zeroWrites t) (λ w. In z (written w) × (p ≢ written w))
   zeros-spare p ne =
       every-cons _ _ _ ((it, tt), ne previous (omega arith))
       (every-cons _ _ _ ((it, tt), ne low (omega arith))

@@ -7,7 +7,7 @@ use native.Mathlib.Omega.{arith}
 use lib.ListN.{length}
 use borrow.Author.Tests.{eq-eqb, ne-eqb}
 use Rattle.lists.specs.Cases.{same-or}
-use Rattle.lists.specs.Quantify.{Below, every-cons, every-none}
+use Rattle.lists.specs.Quantify.{every-cons, every-none}
 use Rattle.words.specs.Bits.{bitOf}
 use Rattle.settings.specs.declared.Settings.{Settings}
 use Rattle.layout.specs.declared.Shape.{Shape}
@@ -18,7 +18,8 @@ use Rattle.layout.proofs.Places.{kind, length-puts, image-puts, get-lt, get-put
 use Rattle.layout.proofs.Marks.{mark-get}
 use Rattle.layout.proofs.Bounds.{framed-bounded}
 use Rattle.chains.specs.Chains.{freeHead}
-use Rattle.entries.specs.Live.{slotAt}
+use Rattle.chunks.specs.Chunks.{FreeTierFits}
+use Rattle.sound.proofs.AgreeTier.{same-free}
 use Rattle.growing.specs.Growing.{grown, afterNew, newTier, newTiers, growImage}
 use Rattle.growing.proofs.Emptying.{NotOf, image-emptyTier, length-emptyTier, get-emptyTier-other, slot-emptyTier, mark-emptyTier, mark-emptyTier-past, next-emptyTier}
 use Rattle.growing.proofs.Reshaped.{tiers-grown, new-extra, in-grown, get-grown}
@@ -26,8 +27,7 @@ use Rattle.growing.proofs.Reshaped.{tiers-grown, new-extra, in-grown, g
 -- ---- a tier that holds nothing, with tier u after it
 
 pub record HoldsNothing (z : Shape) (img : List ℕ) (t u : ℕ) : Type 0 where
-  pub slotsEmpty : Below (z .settings .slots) (λ j. slotAt z img t j ≡ 0)
-  pub chunksClear : Below (z .settings .chunks) (λ i. mark z img t i ≡ 0)
+  pub fits : FreeTierFits z img t
   pub nextIs : get z img (tier t (counter next)) ≡ u
 
 -- a mark is a bit of its byte
@@ -39,8 +39,8 @@ nothing-again : (z : Shape) (img img′ : List ℕ) (t u : ℕ) → IsTier z t
     → ((q : Part) → In z (tier t q) → get z img′ (tier t q) ≡ get z img (tier t q)) → HoldsNothing z img t u → HoldsNothing z img′ t u
 nothing-again z img img′ t u it same h =
     record {
-      slotsEmpty = λ j l. same (slot j) (it, l) ∙ h .slotsEmpty j l;
-      chunksClear = λ i l. mark-same z img′ img t i (same (free (i / 8)) (it, omega arith)) ∙ h .chunksClear i l;
+      fits =
+          same-free z img img′ t (λ j l. same (slot j) (it, l)) (λ i l. mark-same z img′ img t i (same (free (i / 8)) (it, omega arith))) (h .fits);
       nextIs = same (counter next) (it, tt) ∙ h .nextIs;
     }
 
@@ -114,8 +114,11 @@ module _ (z : Shape) {img : List ℕ} (im : Image (grown z) img) where
       (λ (e : k ≡ n).
       rw e
       (record {
-        slotsEmpty = slot-emptyTier before (newTier z n) (newNext z img n) is;
-        chunksClear = mark-emptyTier before (newTier z n) (newNext z img n) is;
+        fits =
+            record {
+              slotsEmpty = slot-emptyTier before (newTier z n) (newNext z img n) is;
+              chunksClear = mark-emptyTier before (newTier z n) (newNext z img n) is;
+            };
         nextIs = next-emptyTier before (newTier z n) (newNext z img n) is (next-small n (omega arith));
       }))
       (λ (e : k ≢ n).
@@ -175,7 +178,8 @@ module _ (z : Shape) {img : List ℕ} (im : Image (grown z) img) where
   bulk-image : Image (grown z) bulk
   bulk-image = image-newTiers z im bulkTiers (omega arith)
 
-  globals-spare : (p : Place) → (kind p ≢ 0) × (kind p ≢ 1) × (kind p ≢ 4) → In (grown z) p → get (grown z) (growImage z img) p ≡ get (grown z) bulk p
+  globals-spare : (p : Place) → (kind p ≢ 0) × (kind p ≢ 1) × (kind p ≢ 4) → In (grown z) p
+      → get (grown z) (growImage z img) p ≡ get (grown z) bulk p
   unfolding growImage
   globals-spare p ne h =
       get-puts-other (bulk-image .framed) bulk _ p h
@@ -201,8 +205,8 @@ module _ (z : Shape) {img : List ℕ} (im : Image (grown z) img) where
             (omega (arith, tiers-grown z, im .framed .tierCount, im .framed .valid .bulkTiers .0))
             (every-cons _ _ _ (tt, by-kind (omega arith)) (every-none _));
         sizeIs =
-            get-puts-here bulk-image (global bulkCount ≔ (bulks + 1) ∷ global firstFree ≔ suc (tiers z) ∷ []) (global storeSize) (storeEnd (grown z)) _ tt
-            (omega (arith, im .framed .within, im .framed .small)) (every-none _);
+            get-puts-here bulk-image (global bulkCount ≔ (bulks + 1) ∷ global firstFree ≔ suc (tiers z) ∷ []) (global storeSize)
+            (storeEnd (grown z)) _ tt (omega (arith, im .framed .within, im .framed .small)) (every-none _);
         kept =
             λ p h ne.
             globals-spare p ne (in-grown z p h)

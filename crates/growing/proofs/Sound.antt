@@ -29,7 +29,7 @@ use Rattle.sound.specs.Sound.{SoundImage}
 use Rattle.sound.proofs.Sound.{sound-image}
 use Rattle.growing.specs.Growing.{grown, noBulk, newTier, growImage, IsNew}
 use Rattle.growing.proofs.Reshaped.{tiers-grown, room-framed}
-use Rattle.growing.proofs.NewTiers.{HoldsNothing, Grows, grow-grows}
+use Rattle.growing.proofs.NewTiers.{Grows, grow-grows}
 use Rattle.growing.proofs.Chains.{grown-chain, grown-free, grown-chains}
 use Rattle.growing.proofs.Tiers.{grown-slots, grown-marks, grown-counters, grown-nothing, grown-liveIn, grown-empty, grown-full, grown-key, grown-pair}
 
@@ -117,8 +117,7 @@ module _ (z : Shape) (img : List ℕ) (sound : SoundImage z img) (room : noBulk 
       let row : (suc (tiers z) ≤ u) × (u < suc (tiers z) + bulkTiers) = span-in (suc (tiers z)) bulkTiers u m in
       let k : ℕ = u - suc (tiers z) in
       let is : newTier z k ≡ u = omega arith in
-      let empty : HoldsNothing (grown z) (growImage z img) (newTier z k) _ = grows .new k (omega arith) in
-      subst (FreeTierFits (grown z) (growImage z img)) is (record { slotsEmpty = empty .slotsEmpty; chunksClear = empty .chunksClear })
+      subst (FreeTierFits (grown z) (growImage z img)) is (grows .new k (omega arith) .fits)
 
   free-now : Every (span (suc (tiers z)) bulkTiers ++ freeChain z img) (FreeTierFits (grown z) (growImage z img))
   free-now u m =

@@ -3,9 +3,9 @@
 
 use super::grow::{longer, refuses};
 use super::on_the_spot::one_tier;
-use super::store_kinds::{Chance, Records, images, reads_as, records};
+use super::store_kinds::{Chance, History, Records, images, reads_as, records};
 use super::worked_store::{FIELDS, block, block_of};
-use crate::{check, entry, grow, lookup, remove, store};
+use crate::{check, entry, grow, lookup, store};
 
 /// Settings and a headers offset. Images are built by them, and what a new
 /// bulk should hold is said by them, apart from the code that is tested.
@@ -282,24 +282,10 @@ fn the_map_stays() {
     }
 }
 
-/// An image with X's tiers and the map that it should read as.
-struct History {
-    image: Vec<u8>,
-    map: Records,
-    /// How many stores were refused for good.
-    full: usize,
-}
-
 impl History {
-    fn remove(&mut self, key: [u8; 2]) {
-        let there = self.map.remove(&key).is_some();
-        let number = remove(&block(), &mut self.image, &key);
-        assert_eq!(number, u32::from(!there));
-    }
-
     /// 10 is left only where there is no room for a bulk either: in a new
     /// tier the entry has its place.
-    fn store(&mut self, key: [u8; 2], record: Vec<u8>) {
+    fn store_or_grow(&mut self, key: [u8; 2], record: Vec<u8>) {
         let mut number = store(&block(), &mut self.image, &key, &record);
         if number == 10 && self.grow() {
             number = store(&block(), &mut self.image, &key, &record);
@@ -342,7 +328,7 @@ fn run_history(mut chance: Chance) {
             1..4 => history.remove(key),
             _ => {
                 let record = vec![chance.below(256) as u8; chance.below(29)];
-                history.store(key, record);
+                history.store_or_grow(key, record);
             }
         }
         reads_as(&history.image, &history.map);

@@ -252,15 +252,15 @@ impl Chance {
 }
 
 /// An image and the map that it should read as.
-struct History {
-    image: Vec<u8>,
-    map: Records,
+pub struct History {
+    pub image: Vec<u8>,
+    pub map: Records,
     /// How many stores were answered with 10.
-    full: usize,
+    pub full: usize,
 }
 
 impl History {
-    fn remove(&mut self, key: [u8; 2]) {
+    pub fn remove(&mut self, key: [u8; 2]) {
         let there = self.map.remove(&key).is_some();
         let number = remove(&block(), &mut self.image, &key);
         assert_eq!(number, u32::from(!there));
