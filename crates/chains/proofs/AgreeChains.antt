@@ -1,4 +1,4 @@
--- Two images that agree on what makes the chains: the segments' chains, where there may be more bulks than before; and all of them.
+-- Two images that agree on what makes the chains: one segment's chain, where there may be more bulks than before; all segments'; all chains.
 use Prim.Native.Nat.{ℕ, suc, _≤_, _<_}
 use mathlib.Core.List.{List, _∷_}
 use mathlib.Core.Path.{_≡_, ap, sym, _∙_, subst}
@@ -16,21 +16,21 @@ use Rattle.layout.specs.declared.Shape.{Shape}
 use Rattle.layout.specs.Tiers.{tiers, IsTier, IsExtra}
 use Rattle.layout.specs.Places.{get, global, usedTiers, tier, counter, previous, segment, order}
 use Rattle.chains.specs.Chains.{nextOf, chain, freeHead, freeChain, chained, chainedExtra, StandsAt, ChainFits, FreeChainFits, ChainsFit}
-use Rattle.chains.proofs.Tiers.{chain-tiers, free-tiers}
+use Rattle.chains.proofs.Tiers.{chain-from-extras, chain-tiers, free-tiers}
 use Rattle.chains.proofs.Linked.{linked-chain, linked-free, chain-linked, free-linked, linked-ends}
 
 -- the shape with another number of bulks
 abbrev pub withBulks : Shape → ℕ → Shape
 withBulks z b = record { settings = z .settings; headers = z .headers; bulks = b }
 
--- ---- the segments' chains
+-- ---- one segment's chain
 
--- every tier of the first shape has the same next and says the same of where it stands
-pub record SameLinks (z : Shape) (b : ℕ) (img img′ : List ℕ) : Type 0 where
-  pub nexts : (u : ℕ) → IsTier z u → nextOf (withBulks z b) img′ u ≡ nextOf z img u
-  pub previous : (u : ℕ) → IsTier z u → get (withBulks z b) img′ (tier u (counter previous)) ≡ get z img (tier u (counter previous))
-  pub segment : (u : ℕ) → IsTier z u → get (withBulks z b) img′ (tier u (counter segment)) ≡ get z img (tier u (counter segment))
-  pub order : (u : ℕ) → IsTier z u → get (withBulks z b) img′ (tier u (counter order)) ≡ get z img (tier u (counter order))
+-- tier u has the same next and says the same of where it stands
+pub record SameLink (z : Shape) (b : ℕ) (img img′ : List ℕ) (u : ℕ) : Type 0 where
+  pub next : nextOf (withBulks z b) img′ u ≡ nextOf z img u
+  pub previous : get (withBulks z b) img′ (tier u (counter previous)) ≡ get z img (tier u (counter previous))
+  pub segment : get (withBulks z b) img′ (tier u (counter segment)) ≡ get z img (tier u (counter segment))
+  pub order : get (withBulks z b) img′ (tier u (counter order)) ≡ get z img (tier u (counter order))
 
 module _ (z : Shape) (b : ℕ) (more : z .bulks ≤ b) where
   tiers-more : tiers z ≤ tiers (withBulks z b)
@@ -43,52 +43,67 @@ module _ (z : Shape) (b : ℕ) (more : z .bulks ≤ b) where
   pub extra-more : (u : ℕ) → IsExtra z u → IsExtra (withBulks z b) u
   extra-more u h = omega (arith, tiers-more)
 
-  module _ (img img′ : List ℕ) (fits : ChainsFit z img) (same : SameLinks z b img img′) where
-    open Shape z using (settings)
-    open Settings settings using (segments)
-
+  module _ (img img′ : List ℕ) (s : ℕ) (hs : s < z .settings .segments) (f : ChainFits z img s)
+      (same : Every (chain z img s) (SameLink z b img img′)) where
     abbrev z′ : Shape
     z′ = withBulks z b
 
-    still-tiers : (s : ℕ) → s < segments → Every (chain z img s) (IsTier z′)
-    still-tiers s h u m = tier-more u (chain-tiers z img fits s h u m)
+    were-tiers : Every (chain z img s) (IsTier z)
+    were-tiers = chain-from-extras z img s hs (f .extras)
 
-    chain-now : (s : ℕ) → s < segments → Linked (nextOf z′ img′) (suc s) (chain z img s)
-    chain-now s h = run-same (λ u m. same .nexts u (chain-tiers z img fits s h u m)) (linked-chain z img s (fits .segmentsFit s h))
+    still-tiers : Every (chain z img s) (IsTier z′)
+    still-tiers u m = tier-more u (were-tiers u m)
 
-    pub links-chain : (s : ℕ) → s < z .settings .segments → chain (withBulks z b) img′ s ≡ chain z img s
-    links-chain s h = chain-linked z′ img′ s (still-tiers s h) (chain-now s h)
+    chain-now : Linked (nextOf z′ img′) (suc s) (chain z img s)
+    chain-now = run-same (λ u m. same u m .next) (linked-chain z img s f)
 
-    pub links-chained : chained (withBulks z b) img′ ≡ chained z img
-    unfolding chained
-    links-chained = same-flatMap (chain z′ img′) (chain z img) (below segments) (λ s m. links-chain s (omega (arith, span-in 0 segments s m)))
-
-    pub links-extras : chainedExtra (withBulks z b) img′ ≡ chainedExtra z img
-    unfolding chainedExtra
-    links-extras =
-        same-flatMap (λ s. drop 1 (chain z′ img′ s)) (λ s. drop 1 (chain z img s)) (below segments)
-        (λ s m. ap (drop 1) (links-chain s (omega (arith, span-in 0 segments s m))))
+    pub link-chain : chain (withBulks z b) img′ s ≡ chain z img s
+    link-chain = chain-linked z′ img′ s still-tiers chain-now
 
     -- a tier says the same of where it stands
-    still-stands : (s i t u : ℕ) → IsTier z t → StandsAt z img s i t u → StandsAt z′ img′ s i t u
-    still-stands s i t u it f =
-        record {
-          segmentIs = same .segment t it ∙ f .segmentIs;
-          orderIs = same .order t it ∙ f .orderIs;
-          previousIs = same .previous t it ∙ f .previousIs;
-        }
+    still-stands : (i t u : ℕ) → SameLink z b img img′ t → StandsAt z img s i t u → StandsAt z′ img′ s i t u
+    still-stands i t u l w =
+        record { segmentIs = l .segment ∙ w .segmentIs; orderIs = l .order ∙ w .orderIs; previousIs = l .previous ∙ w .previousIs }
 
-    pub links-fit : (s : ℕ) → s < z .settings .segments → ChainFits (withBulks z b) img′ s
-    links-fit s h =
-        let f : ChainFits z img s = fits .segmentsFit s h in
-        let e : chain z img s ≡ chain z′ img′ s = sym (links-chain s h) in
+    pub link-fit : ChainFits (withBulks z b) img′ s
+    link-fit =
+        let e : chain z img s ≡ chain z′ img′ s = sym link-chain in
         let stands : Below (length (chain z img s)) (λ i. StandsAt z′ img′ s i (getD (chain z img s) i 0) (getD (0 ∷ chain z img s) i 0)) =
-        λ i l. still-stands s i _ _ (chain-tiers z img fits s h _ (member (chain z img s) i l)) (f .standing i l) in
+        λ i l. still-stands i _ _ (same _ (member (chain z img s) i l)) (f .standing i l) in
         record {
           extras = subst (λ (l : List ℕ). Every (drop 1 l) (IsExtra z′)) e (λ u m. extra-more u (f .extras u m));
           standing = subst (λ (l : List ℕ). Below (length l) (λ i. StandsAt z′ img′ s i (getD l i 0) (getD (0 ∷ l) i 0))) e stands;
-          ends = linked-ends z′ img′ (still-tiers s h) (chain-now s h);
+          ends = linked-ends z′ img′ still-tiers chain-now;
         }
+
+-- ---- the segments' chains
+
+abbrev pub SameLinks : Shape → ℕ → List ℕ → List ℕ → Type 0
+SameLinks z b img img′ = (u : ℕ) → IsTier z u → SameLink z b img img′ u
+
+module _ (z : Shape) (b : ℕ) (more : z .bulks ≤ b) (img img′ : List ℕ) (fits : ChainsFit z img) (same : SameLinks z b img img′) where
+  open Shape z using (settings)
+  open Settings settings using (segments)
+
+  along : (s : ℕ) → s < segments → Every (chain z img s) (SameLink z b img img′)
+  along s h u m = same u (chain-tiers z img fits s h u m)
+
+  pub links-chain : (s : ℕ) → s < z .settings .segments → chain (withBulks z b) img′ s ≡ chain z img s
+  links-chain s h = link-chain z b more img img′ s h (fits .segmentsFit s h) (along s h)
+
+  pub links-chained : chained (withBulks z b) img′ ≡ chained z img
+  unfolding chained
+  links-chained =
+      same-flatMap (chain (withBulks z b) img′) (chain z img) (below segments) (λ s m. links-chain s (omega (arith, span-in 0 segments s m)))
+
+  pub links-extras : chainedExtra (withBulks z b) img′ ≡ chainedExtra z img
+  unfolding chainedExtra
+  links-extras =
+      same-flatMap (λ s. drop 1 (chain (withBulks z b) img′ s)) (λ s. drop 1 (chain z img s)) (below segments)
+      (λ s m. ap (drop 1) (links-chain s (omega (arith, span-in 0 segments s m))))
+
+  pub links-fit : (s : ℕ) → s < z .settings .segments → ChainFits (withBulks z b) img′ s
+  links-fit s h = link-fit z b more img img′ s h (fits .segmentsFit s h) (along s h)
 
 -- ---- all chains, of one shape
 
@@ -102,7 +117,7 @@ pub record SameChains (z : Shape) (img img′ : List ℕ) : Type 0 where
 
 module _ (z : Shape) (img img′ : List ℕ) (fits : ChainsFit z img) (same : SameChains z img img′) where
   links : SameLinks z (z .bulks) img img′
-  links = record { nexts = same .nexts; previous = same .previous; segment = same .segment; order = same .order }
+  links u is = record { next = same .nexts u is; previous = same .previous u is; segment = same .segment u is; order = same .order u is }
 
   free-now : Linked (nextOf z img′) (freeHead z img′) (freeChain z img)
   free-now = run-from (same .head) (run-same (λ u m. same .nexts u (free-tiers z img (fits .freeFits) u m)) (linked-free z img (fits .freeFits)))

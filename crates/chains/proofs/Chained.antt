@@ -28,7 +28,7 @@ IsChained z img t = (s : ℕ) × ((s < z .settings .segments) × List·Memᴰ t 
 module _ (z : Shape) (img : List ℕ) (fits : ChainsFit z img) where
   -- ---- what a tier's counters say of where it stands
 
-  says-segment : (s t : ℕ) → s < z .settings .segments → List·Memᴰ t (chain z img s) → get z img (tier t (counter segment)) ≡ s
+  pub says-segment : (s t : ℕ) → s < z .settings .segments → List·Memᴰ t (chain z img s) → get z img (tier t (counter segment)) ≡ s
   says-segment s t hs m =
       let r : (i : ℕ) × (i < length (chain z img s)) × (getD (chain z img s) i 0 ≡ t) = member-place t (chain z img s) m in
       subst (λ (u : ℕ). get z img (tier u (counter segment)) ≡ s) (r .2) (fits .segmentsFit s hs .standing (r .0) (r .1) .segmentIs)

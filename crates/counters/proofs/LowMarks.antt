@@ -56,7 +56,7 @@ module _ (z : Shape) where
   chained-on : {ts img : List ℕ} {t : ℕ} → SoundBut z img (t ∷ ts) → Every (t ∷ ts) (IsChained z img) → Every ts (IsChained z (recount z img t))
   chained-on {ts} {img} {t} sound c u m = recount-chained z img t sound (c t (List·Memᴰ·head refl)) u (c u (List·Memᴰ·tail m))
 
-  chained-tier : {but img : List ℕ} {t : ℕ} → SoundBut z img but → IsChained z img t → IsTier z t
+  pub chained-tier : {but img : List ℕ} {t : ℕ} → SoundBut z img but → IsChained z img t → IsTier z t
   chained-tier {but} {img} {t} sound c = chain-tiers z img (sound .fits .chains) (c .0) (c .1 .0) t (c .1 .1)
 
   exact-stays : (ts img : List ℕ) → SoundBut z img ts → Every ts (IsChained z img) → (u : ℕ) → IsTier z u → Exact img u
@@ -95,4 +95,13 @@ module _ (z : Shape) where
       record {
         exact = settle-exact ts img′ sound c;
         others = λ u is out. low-then (before u is out) (settle-others ts img′ sound c u is out);
+      }
+
+  -- and what comes after it leaves bits and fields
+  pub lows-then : {img img′ img″ ts : List ℕ} → LowMarks z img img′ ts → Every ts (IsTier z)
+      → ((u : ℕ) → IsTier z u → LowKept z img′ img″ u) → LowMarks z img img″ ts
+  lows-then {img} {img′} {img″} a is kept =
+      record {
+        exact = λ u m. kept u (is u m) .field ∙ a .exact u m ∙ sym (same-lowest z img′ img″ u (kept u (is u m) .bits));
+        others = λ u it out. low-then (a .others u it out) (kept u it);
       }

@@ -2,17 +2,18 @@
 use Prim.Native.Nat.{ℕ, _<_}
 use mathlib.Core.List.{List, [], _∷_, List·Memᴰ, List·Memᴰ·head, List·Memᴰ·tail}
 use mathlib.Core.Path.{_≡_, refl, ap, sym, _∙_, subst}
-use mathlib.Core.Logic.{_≢_}
+use mathlib.Core.Logic.{⊎-elim, _≢_}
 use native.Mathlib.Omega.{arith}
 use lib.ListN.{length}
 use Rattle.lists.specs.Lists.{total}
+use Rattle.lists.specs.Cases.{same-or}
 use Rattle.lists.specs.Quantify.{Every, every-cons, every-none}
 use Rattle.layout.specs.declared.Shape.{Shape}
 use Rattle.layout.specs.Tiers.{IsTier}
 use Rattle.layout.specs.Places.{Global, firstFree, usedTiers, entryCount, lowestFree, nextTier, Counter, next, low, count, previous, segment, order, Place, global, tier, slot, counter, free, byte, counterNo, In, get, put, nextPlace, lowPlace, countPlace, _≔_, puts}
 use Rattle.layout.specs.Frame.{Image}
 use Rattle.layout.proofs.Places.{written, get-same, get-other, get-puts-other, image-put, image-puts, length-puts, shared-in, shared-never, shared-slot, shared-free, shared-byte, shared-tiers, shared-fields, global-lt}
-use Rattle.chains.specs.Chains.{chain}
+use Rattle.chains.specs.Chains.{chain, freeChain, ChainsFit}
 use Rattle.chains.proofs.Chained.{IsChained}
 use Rattle.entries.specs.Live.{fullSlots}
 use Rattle.chunks.specs.Chunks.{lowestClear, lowField, CountersFit}
@@ -24,8 +25,8 @@ use Rattle.counters.specs.Recount.{recount, settle}
 use Rattle.chains.proofs.Tiers.{chain-tiers}
 use Rattle.sound.proofs.Sound.{sound-image, but-sound, but-less}
 use Rattle.counters.proofs.CountRoom.{count-room, low-room, full-few}
-use Rattle.sound.proofs.AgreeTier.{SameTier, same-full, same-lowest, same-weigh}
-use Rattle.chains.proofs.AgreeChains.{SameChains, same-chain}
+use Rattle.sound.proofs.AgreeTier.{SameSlots, SameTier, same-full, same-lowest, same-weigh}
+use Rattle.chains.proofs.AgreeChains.{SameChains, same-chain, same-freeChain}
 use Rattle.sound.proofs.Replaced.{OnlyTier, tier-stays, tier-replaced, pairs-replaced}
 use Rattle.sound.proofs.Elsewhere.{tier-by-places}
 
@@ -186,3 +187,41 @@ module _ (z : Shape) where
       settle-pairs ts (recount z img t) (recount-sound z img (here .0) t (here .1 .0) sound (here .1 .1))
       (λ u m. recount-chained img t sound here u (c u (List·Memᴰ·tail m))) F
       ∙ recount-pairs z img (here .0) t (here .1 .0) sound (here .1 .1) F
+
+  -- what each recount keeps is kept by all of them
+  settle-keeps : (Q : List ℕ → Type 0)
+      → ((i : List ℕ) (t : ℕ) → OnlyTier z i (recount z i t) t → SameTier z i (recount z i t) t → ChainsFit z i → Q i → Q (recount z i t))
+      → (ts img : List ℕ) → SoundBut z img ts → Every ts (IsChained z img) → Q img → Q (settle z img ts)
+  unfolding settle
+  settle-keeps Q one [] img sound c q = q
+  settle-keeps Q one (t ∷ ts) img sound c q =
+      let here : IsChained z img t = c t (List·Memᴰ·head refl) in
+      settle-keeps Q one ts (recount z img t) (recount-sound z img (here .0) t (here .1 .0) sound (here .1 .1))
+      (λ u m. recount-chained img t sound here u (c u (List·Memᴰ·tail m)))
+      (one img t (recount-only z img (here .0) t (here .1 .0) sound (here .1 .1)) (recount-tier z img (here .0) t (here .1 .0) sound (here .1 .1))
+      (sound .fits .chains) q)
+
+  module _ (ts img : List ℕ) (sound : SoundBut z img ts) (c : Every ts (IsChained z img)) where
+    pub settle-slots : (u : ℕ) → IsTier z u → SameSlots z img (settle z img ts) u
+    settle-slots u is =
+        settle-keeps (λ i. SameSlots z img i u)
+        (λ i t only own f q.
+        let same : SameTier z i (recount z i t) u =
+        ⊎-elim (λ (e : u ≡ t). rw e own) (λ (ne : u ≢ t). only .others u is ne) (same-or u t) in
+        λ j h. same .slots j h ∙ q j h)
+        ts img sound c (λ j h. refl)
+
+    pub settle-chain : (s : ℕ) → s < z .settings .segments → chain z (settle z img ts) s ≡ chain z img s
+    settle-chain s hs =
+        settle-keeps (λ i. chain z i s ≡ chain z img s)
+        (λ i t only own f q. same-chain z i (recount z i t) f (only .chains) s hs ∙ q)
+        ts img sound c refl
+
+    pub settle-free : freeChain z (settle z img ts) ≡ freeChain z img
+    settle-free =
+        settle-keeps (λ i. freeChain z i ≡ freeChain z img)
+        (λ i t only own f q. same-freeChain z i (recount z i t) f (only .chains) ∙ q)
+        ts img sound c refl
+
+    pub settle-chained : (u : ℕ) → IsChained z img u → IsChained z (settle z img ts) u
+    settle-chained u d = (d .0, (d .1 .0, subst (List·Memᴰ u) (sym (settle-chain (d .0) (d .1 .0))) (d .1 .1)))

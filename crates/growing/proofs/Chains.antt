@@ -70,7 +70,13 @@ module _ (z : Shape) (img img′ : List ℕ) (fits : ChainsFit z img) (some : 1 
   counter-kept f u is = g .kept (tier u (counter f)) (is, tt) (omega arith)
 
   links : SameLinks z (bulks + 1) img img′
-  links = record { nexts = next-kept; previous = counter-kept previous; segment = counter-kept segment; order = counter-kept order }
+  links u is =
+      record {
+        next = next-kept u is;
+        previous = counter-kept previous u is;
+        segment = counter-kept segment u is;
+        order = counter-kept order u is;
+      }
 
   -- ---- the segments' chains
 

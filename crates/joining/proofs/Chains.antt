@@ -3,18 +3,21 @@ use Prim.Native.Nat.{ℕ, suc, _-_, _<_}
 use mathlib.Core.List.{List, [], _∷_, _++_, List·Memᴰ, List·Memᴰ·tail}
 use mathlib.Core.Path.{_≡_, sym, subst}
 use mathlib.Core.Logic.{_≢_}
+use native.Mathlib.Omega.{arith}
 use lib.ListN.{length}
 use Rattle.lists.specs.Quantify.{Every}
 use Rattle.lists.proofs.Members.{every-more}
 use Rattle.links.specs.Links.{Linked}
-use Rattle.links.proofs.Runs.{run-from, run-same}
+use Rattle.links.proofs.Runs.{run-from}
 use Rattle.links.proofs.Edits.{linked-one, linked-append, linked-rest}
 use Rattle.layout.specs.declared.Shape.{Shape}
 use Rattle.layout.specs.Tiers.{tiers, IsTier}
-use Rattle.chains.specs.Chains.{nextOf, follow, endOf, chain, freeHead, freeChain, ChainsFit, lastTier}
+use Rattle.layout.specs.Places.{previous, segment, order}
+use Rattle.chains.specs.Chains.{nextOf, follow, endOf, chain, freeHead, freeChain, ChainFits, ChainsFit, lastTier}
 use Rattle.chains.proofs.Tiers.{chain-tiers, free-tiers}
 use Rattle.chains.proofs.Linked.{linked-chain, chain-linked, free-linked, linked-ends}
 use Rattle.chains.proofs.Chained.{chain-segment, free-not-chained}
+use Rattle.chains.proofs.AgreeChains.{SameLink, link-chain, link-fit}
 use Rattle.chains.proofs.Segments.{last-in}
 use Rattle.joining.proofs.Ends.{last-next, free-cons, free-list, new-tier, not-new}
 use Rattle.joining.proofs.Writes.{Joins}
@@ -34,20 +37,26 @@ module _ (z : Shape) (img : List ℕ) (s : ℕ) (hs : s < z .settings .segments)
     -- ---- another segment's chain
 
     module _ (q : ℕ) (hq : q < z .settings .segments) (nq : q ≢ s) where
-      other-linked : Linked (nextOf z img′) (suc q) (chain z img q)
-      other-linked =
-          run-same
-          (λ u m.
-          j .nextOther u (chain-tiers z img fits q hq u m)
-          (λ e. nq (chain-segment z img fits q s u hq hs m (subst (λ (x : ℕ). List·Memᴰ x (chain z img s)) (sym e) (last-in z img s hs))))
-          (not-new z img s hs fits ne q u hq m))
-          (linked-chain z img q (fits .segmentsFit q hq))
+      not-last : (u : ℕ) → List·Memᴰ u (chain z img q) → u ≢ lastTier z img s
+      not-last u m e =
+          nq (chain-segment z img fits q s u hq hs m (subst (λ (x : ℕ). List·Memᴰ x (chain z img s)) (sym e) (last-in z img s hs)))
+
+      other-links : Every (chain z img q) (SameLink z (z .bulks) img img′)
+      other-links u m =
+          let is : IsTier z u = chain-tiers z img fits q hq u m in
+          let old : u ≢ freeHead z img = not-new z img s hs fits ne q u hq m in
+          record {
+            next = j .nextOther u is (not-last u m) old;
+            previous = j .counters previous (omega arith) u is old;
+            segment = j .counters segment (omega arith) u is old;
+            order = j .counters order (omega arith) u is old;
+          }
 
       pub other-chain : chain z img′ q ≡ chain z img q
-      other-chain = chain-linked z img′ q (chain-tiers z img fits q hq) other-linked
+      other-chain = link-chain z (z .bulks) (omega arith) img img′ q hq (fits .segmentsFit q hq) other-links
 
-      pub other-ends : endOf z img′ (tiers z) (suc q) ≡ 0
-      other-ends = linked-ends z img′ (chain-tiers z img fits q hq) other-linked
+      pub other-fits : ChainFits z img′ q
+      other-fits = link-fit z (z .bulks) (omega arith) img img′ q hq (fits .segmentsFit q hq) other-links
 
     -- ---- the chain that the tier joined
 

@@ -19,7 +19,7 @@ use Rattle.chains.proofs.Tiers.{chain-tiers}
 use Rattle.chains.proofs.Segments.{chain-some, last-met}
 use Rattle.joining.proofs.Ends.{free-cons, new-extra, not-new}
 use Rattle.lists.proofs.Parts.{parts-longer}
-use Rattle.joining.proofs.Chains.{others, others-free, other-chain, other-ends, longer-chain, longer-ends, shorter-free, free-ends}
+use Rattle.joining.proofs.Chains.{others, others-free, other-chain, other-fits, longer-chain, longer-ends, shorter-free, free-ends}
 use Rattle.joining.proofs.Writes.{Joins}
 
 drop-append : (xs ys : List ℕ) → 0 < length xs → drop 1 (xs ++ ys) ≡ drop 1 xs ++ ys
@@ -47,21 +47,19 @@ module _ (z : Shape) (img : List ℕ) (s : ℕ) (hs : s < z .settings .segments)
 
   -- ---- where the tiers stand
 
-  stands-same : (q i u v : ℕ) → IsTier z u → u ≢ freeHead z img → StandsAt z img q i u v → StandsAt z img′ q i u v
-  stands-same q i u v iu nu w =
+  -- those that were there stand where they stood
+  stood : (i : ℕ) → i < length (chain z img s) → StandsAt z img′ s i (getD (chain z img s) i 0) (getD (0 ∷ chain z img s) i 0)
+  stood i h =
+      let u : ℕ = getD (chain z img s) i 0 in
+      let m : List·Memᴰ u (chain z img s) = member (chain z img s) i h in
+      let is : IsTier z u = chain-tiers z img fits s hs u m in
+      let old : u ≢ freeHead z img = not-new z img s hs fits ne s u hs m in
+      let w : StandsAt z img s i u (getD (0 ∷ chain z img s) i 0) = fits .segmentsFit s hs .standing i h in
       record {
-        segmentIs = j .counters segment (omega arith) u iu nu ∙ w .segmentIs;
-        orderIs = j .counters order (omega arith) u iu nu ∙ w .orderIs;
-        previousIs = j .counters previous (omega arith) u iu nu ∙ w .previousIs;
+        segmentIs = j .counters segment (omega arith) u is old ∙ w .segmentIs;
+        orderIs = j .counters order (omega arith) u is old ∙ w .orderIs;
+        previousIs = j .counters previous (omega arith) u is old ∙ w .previousIs;
       }
-
-  stood : (q i : ℕ) → q < z .settings .segments → i < length (chain z img q)
-      → StandsAt z img′ q i (getD (chain z img q) i 0) (getD (0 ∷ chain z img q) i 0)
-  stood q i hq h =
-      let u : ℕ = getD (chain z img q) i 0 in
-      let m : List·Memᴰ u (chain z img q) = member (chain z img q) i h in
-      stands-same q i u (getD (0 ∷ chain z img q) i 0) (chain-tiers z img fits q hq u m) (not-new z img s hs fits ne q u hq m)
-      (fits .segmentsFit q hq .standing i h)
 
   stands-new : Below (length (chain z img s ++ (freeHead z img ∷ [])))
       (λ i. StandsAt z img′ s i (getD (chain z img s ++ (freeHead z img ∷ [])) i 0) (getD (0 ∷ (chain z img s ++ (freeHead z img ∷ []))) i 0))
@@ -77,7 +75,7 @@ module _ (z : Shape) (img : List ℕ) (s : ℕ) (hs : s < z .settings .segments)
       subst₂ (StandsAt z img′ s i) (sym a) (sym d) (record { segmentIs = j .segmentNew; orderIs = j .orderNew ∙ sym e; previousIs = j .previousNew }))
       (λ (e : i ≢ length c).
       let k : i < length c = omega arith in
-      subst₂ (StandsAt z img′ s i) (sym (List·getD-append c (t ∷ []) 0 i k)) (sym b) (stood s i hs k))
+      subst₂ (StandsAt z img′ s i) (sym (List·getD-append c (t ∷ []) 0 i k)) (sym b) (stood i k))
       (same-or i (length c))
 
   -- ---- the rules
@@ -95,11 +93,6 @@ module _ (z : Shape) (img : List ℕ) (s : ℕ) (hs : s < z .settings .segments)
   fits-joined =
       let e : chain z img′ s ≡ chain z img s ++ (freeHead z img ∷ []) = longer-chain z img s hs fits ne img′ j in
       record { extras = rw e extras-new; standing = rw e stands-new; ends = longer-ends z img s hs fits ne img′ j }
-
-  fits-other : (q : ℕ) → q < z .settings .segments → q ≢ s → ChainFits z img′ q
-  fits-other q hq nq =
-      let e : chain z img′ q ≡ chain z img q = other-chain z img s hs fits ne img′ j q hq nq in
-      record { extras = rw e (fits .segmentsFit q hq .extras); standing = rw e (λ i h. stood q i hq h); ends = other-ends z img s hs fits ne img′ j q hq nq }
 
   once-again : (u : ℕ) → Once z img u → Once z img′ u
   once-again u w =
@@ -119,7 +112,7 @@ module _ (z : Shape) (img : List ℕ) (s : ℕ) (hs : s < z .settings .segments)
   pub chains-again : ChainsFit z img′
   chains-again =
       record {
-        segmentsFit = λ q hq. ⊎-elim (λ (e : q ≡ s). rw e fits-joined) (λ e. fits-other q hq e) (same-or q s);
+        segmentsFit = λ q hq. ⊎-elim (λ (e : q ≡ s). rw e fits-joined) (λ e. other-fits z img s hs fits ne img′ j q hq e) (same-or q s);
         freeFits =
             record {
               extras = rw (shorter-free z img s hs fits ne img′ j) (λ u m. fits .freeFits .extras u (others-free z img s hs fits ne u m));

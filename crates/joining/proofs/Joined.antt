@@ -21,11 +21,12 @@ use Rattle.sound.specs.Sound.{SoundBut}
 use Rattle.joining.specs.Joining.{join}
 use Rattle.chains.proofs.Tiers.{chain-tiers}
 use Rattle.sound.proofs.AgreeTier.{SameTier, SameCounters, same-tier-fits, same-marks, same-counters, same-free}
+use Rattle.sound.proofs.Empty.{none-covers}
 use Rattle.sound.proofs.Sound.{sound-image}
 use Rattle.joining.proofs.Ends.{join-joins}
 use Rattle.joining.proofs.Chains.{others-free, longer-chain, other-chain, shorter-free}
 use Rattle.joining.proofs.Fitting.{chains-again}
-use Rattle.joining.proofs.Tiers.{new-marks, new-none, new-live, new-fits, in-chain, old-tier, Before, full-before, pairs-same}
+use Rattle.joining.proofs.Tiers.{new-marks, new-none, new-fits, in-chain, old-tier, Before, full-before, pairs-same}
 use Rattle.joining.proofs.Writes.{Joins}
 
 module _ (z : Shape) (img : List ℕ) (s : ℕ) (hs : s < z .settings .segments) {but : List ℕ} (sound : SoundBut z img but) (ne : freeHead z img ≢ 0) where
@@ -51,7 +52,9 @@ module _ (z : Shape) (img : List ℕ) (s : ℕ) (hs : s < z .settings .segments)
     marks-again q hq u m =
         ⊎-elim
         (λ k. same-marks z img img′ u (old-tier z img s hs sound ne img′ j q hq u k) q (sound .fits .chunks .marks q hq u k))
-        (λ (e : u ≡ freeHead z img). rw e (λ i hi. new-live z img s hs sound ne img′ j q i ∙ sym (new-marks z img s hs sound ne img′ j i hi)))
+        (λ (e : u ≡ freeHead z img).
+        rw e
+        (λ i hi. none-covers z img′ (freeHead z img) (new-none z img s hs sound ne img′ j) q i ∙ sym (new-marks z img s hs sound ne img′ j i hi)))
         (in-chain z img s hs sound ne img′ j q hq u m)
 
     counters-again : Below (z .settings .segments)

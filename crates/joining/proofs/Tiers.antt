@@ -1,27 +1,26 @@
 -- The tiers after a free tier joined the end of a chain: it has no full slot, the others hold what they held.
-use Prim.Native.Nat.{ℕ, zero, suc, _≤_, _<_}
+use Prim.Native.Nat.{ℕ, _<_}
 use mathlib.Core.List.{List, [], _∷_, _++_, List·Memᴰ, List·Memᴰ·append-cases, List·Memᴰ·eq-of-singleton}
-use mathlib.Core.Path.{_≡_, refl, ap, _∙_}
+use mathlib.Core.Path.{_≡_, _∙_}
 use mathlib.Core.Logic.{_⊎_, inl, inr, ⊎-elim, _≢_}
 use native.Mathlib.Omega.{arith}
 use lib.ListN.{length}
 use Rattle.lists.specs.Cases.{same-or}
-use Rattle.lists.specs.Lists.{those, howMany, total}
+use Rattle.lists.specs.Lists.{total}
 use Rattle.lists.specs.Quantify.{Below, Every}
 use Rattle.lists.proofs.Lists.{total-append}
 use Rattle.layout.specs.declared.Shape.{Shape}
 use Rattle.layout.specs.Places.{mark}
 use Rattle.chains.specs.Chains.{chain, chained, freeHead, lastTier}
-use Rattle.probe.specs.Table.{slotTotal}
-use Rattle.entries.specs.Live.{slotAt, fullSlots, liveIn}
-use Rattle.search.specs.Search.{slotsOf}
+use Rattle.entries.specs.Live.{slotAt, fullSlots}
 use Rattle.search.specs.Rules.{keyAt, TierSlotsFit}
-use Rattle.chunks.specs.Chunks.{covers, FreeTierFits}
+use Rattle.chunks.specs.Chunks.{FreeTierFits}
 use Rattle.entries.specs.Pairs.{Pair, pairsOf}
 use Rattle.sound.specs.Sound.{SoundBut}
-use Rattle.sound.proofs.Values.{ifFull, weigh}
+use Rattle.sound.proofs.Values.{weigh}
 use Rattle.lists.proofs.Totals.{total-same}
-use Rattle.sound.proofs.Sums.{full-total, pairs-total}
+use Rattle.sound.proofs.Sums.{pairs-total}
+use Rattle.sound.proofs.Empty.{empty-none, empty-weigh}
 use Rattle.chains.proofs.Chained.{chained-in}
 use Rattle.chains.proofs.Tiers.{chain-tiers}
 use Rattle.sound.proofs.AgreeEntry.{Moved, entry-moves}
@@ -30,20 +29,6 @@ use Rattle.joining.proofs.Ends.{new-in, new-tier}
 use Rattle.joining.proofs.Chains.{other-chain, longer-chain}
 use Rattle.joining.proofs.Fitting.{chained-longer}
 use Rattle.joining.proofs.Writes.{Joins}
-
--- a sum over empty slots
-table-empty : (z : Shape) (img : List ℕ) (t : ℕ) (f : ℕ → ℕ) → Below (z .settings .slots) (λ k. slotAt z img t k ≡ 0) → (n : ℕ)
-    → n ≤ z .settings .slots
-    → slotTotal (slotsOf z t) (ifFull f) img n ≡ 0
-unfolding slotTotal ifFull
-table-empty z img t f e zero h = refl
-table-empty z img t f e (suc n) h =
-    let q : ifFull f (slotAt z img t n) ≡ 0 = ap (ifFull f) (e n (omega arith)) in
-    omega (arith, q, table-empty z img t f e n (omega arith))
-
-no-members : {A : Type 0} (xs : List A) → length xs ≡ 0 → xs ≡ []
-no-members [] e = refl
-no-members (x ∷ xs) e = absurd (omega arith)
 
 module _ (z : Shape) (img : List ℕ) (s : ℕ) (hs : s < z .settings .segments) {but : List ℕ} (sound : SoundBut z img but) (ne : freeHead z img ≢ 0)
     (img′ : List ℕ) (j : Joins z img img′ s (freeHead z img) (lastTier z img s) (length (chain z img s))) where
@@ -62,15 +47,7 @@ module _ (z : Shape) (img : List ℕ) (s : ℕ) (hs : s < z .settings .segments)
   new-marks i h = new-same .marks i h ∙ new-free .chunksClear i h
 
   pub new-none : length (fullSlots z img′ (freeHead z img)) ≡ 0
-  new-none = full-total z img′ (freeHead z img) ∙ table-empty z img′ (freeHead z img) (λ v. 1) new-slots (z .settings .slots) (omega arith)
-
-  new-weigh : (F : Pair → ℕ) → weigh z img′ F (freeHead z img) ≡ 0
-  unfolding weigh
-  new-weigh F = table-empty z img′ (freeHead z img) _ new-slots (z .settings .slots) (omega arith)
-
-  pub new-live : (q i : ℕ) → howMany (liveIn z img′ q (freeHead z img)) (covers i) ≡ 0
-  unfolding liveIn those
-  new-live q i = rw (no-members (fullSlots z img′ (freeHead z img)) new-none)
+  new-none = empty-none z img′ (freeHead z img) new-slots
 
   pub new-fits : (q : ℕ) → TierSlotsFit z img′ q (freeHead z img)
   new-fits q =
@@ -132,6 +109,6 @@ module _ (z : Shape) (img : List ℕ) (s : ℕ) (hs : s < z .settings .segments)
         pairs-total z img F,
         pairs-total z img′ F,
         chained-longer z img s hs (sound .fits .chains) ne img′ j (λ xs. total xs (weigh z img′ F)) (total-append (weigh z img′ F)),
-        new-weigh F,
+        empty-weigh z img′ (freeHead z img) new-slots F,
         total-same (chained z img) (weigh z img F) (weigh z img′ F) (old-weigh F),
       )

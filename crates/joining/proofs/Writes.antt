@@ -5,12 +5,11 @@ use mathlib.Core.Path.{_≡_, refl, sym, _∙_}
 use mathlib.Core.Logic.{⊎-elim, _≢_}
 use native.Mathlib.Omega.{arith}
 use lib.ListN.{length}
-use Rattle.lists.specs.Quantify.{Every, every-cons, every-none}
 use Rattle.layout.specs.declared.Shape.{Shape}
 use Rattle.layout.specs.Tiers.{IsTier}
-use Rattle.layout.specs.Places.{Counter, entryCount, lowestFree, nextTier, next, previous, low, segment, order, count, Global, firstFree, usedTiers, globalNo, counterNo, Place, global, tier, counter, wide, partWide, In, get, nextPlace, Write, _≔_, puts}
+use Rattle.layout.specs.Places.{Counter, entryCount, lowestFree, nextTier, next, previous, low, segment, order, count, Global, firstFree, usedTiers, globalNo, counterNo, Place, global, tier, counter, wide, partWide, get, nextPlace, _≔_, puts}
 use Rattle.layout.specs.Frame.{Image}
-use Rattle.layout.proofs.Places.{written, get-puts-here, image-puts, length-puts, kind, by-kind, shared-in, shared-kind, shared-never, shared-tiers, shared-wide}
+use Rattle.layout.proofs.Places.{Spares, spare, spare-none, get-puts-here, image-puts, length-puts, kind, by-kind, shared-in, shared-kind, shared-never, shared-tiers, shared-wide}
 use Rattle.chains.specs.Chains.{nextOf, freeHead}
 use Rattle.sound.proofs.AgreeTier.{SameTier, SameCounters}
 use Rattle.joining.proofs.Kept.{joinWrites, next-kept, counter-kept, shared-kept, same-tiers, global-kept}
@@ -37,25 +36,15 @@ module _ {z : Shape} {img : List ℕ} (im : Image z img) (s t l a b n : ℕ) (it
   abbrev after : List ℕ
   after = puts z img (joinWrites z s t l a b n)
 
-  -- writes leave a place that is none of theirs
-  abbrev Spares : Place → List Write → Type 0
-  Spares p ws = Every ws (λ w. In z (written w) × (p ≢ written w))
-
-  spare : (p q : Place) (v : ℕ) (ws : List Write) → In z q → p ≢ q → Spares p ws → Spares p ((q ≔ v) ∷ ws)
-  spare p q v ws h ne e = every-cons (λ w. In z (written w) × (p ≢ written w)) (q ≔ v) ws (h, ne) e
-
-  spare-none : (p : Place) → Spares p []
-  spare-none p = every-none (λ w. In z (written w) × (p ≢ written w))
-
   -- the three counters of t, and before them its next
   from-counters : (p : Place) → kind p ≢ 10 → kind p ≢ 12 → kind p ≢ 13
-      → Spares p (tier t (counter previous) ≔ l ∷ tier t (counter segment) ≔ s ∷ tier t (counter order) ≔ n ∷ [])
+      → Spares z p (tier t (counter previous) ≔ l ∷ tier t (counter segment) ≔ s ∷ tier t (counter order) ≔ n ∷ [])
   from-counters p k1 k2 k3 =
-      spare p _ l _ (it, tt) (by-kind k1) (spare p _ s _ (it, tt) (by-kind k2) (spare p _ n _ (it, tt) (by-kind k3) (spare-none p)))
+      spare z p _ l _ (it, tt) (by-kind k1) (spare z p _ s _ (it, tt) (by-kind k2) (spare z p _ n _ (it, tt) (by-kind k3) (spare-none z p)))
 
   from-new : (p : Place) → kind p ≢ 10 → kind p ≢ 12 → kind p ≢ 13 → p ≢ nextPlace z t
-      → Spares p (nextPlace z t ≔ 0 ∷ tier t (counter previous) ≔ l ∷ tier t (counter segment) ≔ s ∷ tier t (counter order) ≔ n ∷ [])
-  from-new p k1 k2 k3 ne = spare p _ 0 _ (shared-in z nextTier next t it) ne (from-counters p k1 k2 k3)
+      → Spares z p (nextPlace z t ≔ 0 ∷ tier t (counter previous) ≔ l ∷ tier t (counter segment) ≔ s ∷ tier t (counter order) ≔ n ∷ [])
+  from-new p k1 k2 k3 ne = spare z p _ 0 _ (shared-in z nextTier next t it) ne (from-counters p k1 k2 k3)
 
   next-kind : (u k : ℕ) → k ≢ 7 → k ≢ 9 → kind (nextPlace z u) ≢ k
   next-kind u k k1 k2 e =
@@ -70,8 +59,8 @@ module _ {z : Shape} {img : List ℕ} (im : Image z img) (s t l a b n : ℕ) (it
     last-set =
         let p : Place = nextPlace z l in
         get-puts-here im [] p t _ (shared-in z nextTier next l il) (rw (next-wide l) ft)
-        (spare p (global firstFree) a _ tt (by-kind (next-kind l 1 (omega arith) (omega arith)))
-        (spare p (global usedTiers) b _ tt (by-kind (next-kind l 2 (omega arith) (omega arith)))
+        (spare z p (global firstFree) a _ tt (by-kind (next-kind l 1 (omega arith) (omega arith)))
+        (spare z p (global usedTiers) b _ tt (by-kind (next-kind l 2 (omega arith) (omega arith)))
         (from-new p (next-kind l 10 (omega arith) (omega arith)) (next-kind l 12 (omega arith) (omega arith)) (next-kind l 13 (omega arith) (omega arith))
         (shared-tiers z nextTier next l t (il .0) (it .0) ne))))
 
@@ -86,7 +75,7 @@ module _ {z : Shape} {img : List ℕ} (im : Image z img) (s t l a b n : ℕ) (it
     unfolding wide
     head-set =
         get-puts-here im (nextPlace z l ≔ t ∷ []) (global firstFree) a _ tt fa
-        (spare (global firstFree) (global usedTiers) b _ tt (by-kind (omega arith))
+        (spare z (global firstFree) (global usedTiers) b _ tt (by-kind (omega arith))
         (from-new (global firstFree) (omega arith) (omega arith) (omega arith)
         (λ e. shared-never z nextTier next t (global firstFree) (omega arith) (omega arith) (sym e))))
 
@@ -102,8 +91,8 @@ module _ {z : Shape} {img : List ℕ} (im : Image z img) (s t l a b n : ℕ) (it
     previous-set =
         let p : Place = tier t (counter previous) in
         get-puts-here im (nextPlace z l ≔ t ∷ global firstFree ≔ a ∷ global usedTiers ≔ b ∷ nextPlace z t ≔ 0 ∷ []) p l _ (it, tt) fl
-        (spare p (tier t (counter segment)) s _ (it, tt) (by-kind (omega arith))
-        (spare p (tier t (counter order)) n _ (it, tt) (by-kind (omega arith)) (spare-none p)))
+        (spare z p (tier t (counter segment)) s _ (it, tt) (by-kind (omega arith))
+        (spare z p (tier t (counter order)) n _ (it, tt) (by-kind (omega arith)) (spare-none z p)))
 
     segment-set : get z after (tier t (counter segment)) ≡ s
     unfolding wide partWide
@@ -112,7 +101,7 @@ module _ {z : Shape} {img : List ℕ} (im : Image z img) (s t l a b n : ℕ) (it
         get-puts-here im
         (nextPlace z l ≔ t ∷ global firstFree ≔ a ∷ global usedTiers ≔ b ∷ nextPlace z t ≔ 0 ∷ tier t (counter previous) ≔ l ∷ []) p s _
         (it, tt) fs
-        (spare p (tier t (counter order)) n _ (it, tt) (by-kind (omega arith)) (spare-none p))
+        (spare z p (tier t (counter order)) n _ (it, tt) (by-kind (omega arith)) (spare-none z p))
 
     order-set : get z after (tier t (counter order)) ≡ n
     unfolding wide partWide
@@ -121,7 +110,7 @@ module _ {z : Shape} {img : List ℕ} (im : Image z img) (s t l a b n : ℕ) (it
         get-puts-here im
         (nextPlace z l ≔ t ∷ global firstFree ≔ a ∷ global usedTiers ≔ b ∷ nextPlace z t ≔ 0 ∷ tier t (counter previous) ≔ l ∷ tier t
         (counter segment) ≔ s ∷ [])
-        p n _ (it, tt) fn (spare-none p)
+        p n _ (it, tt) fn (spare-none z p)
 
     pub joins : Joins z img after s t l n
     joins =

@@ -1,6 +1,6 @@
 -- The image is a map from places to numbers: reading after writing, and writes among themselves.
 use Prim.Native.Nat.{ℕ, _+_, _-_, _*_, _^_, _≤_, _<_}
-use mathlib.Core.List.{List, [], _∷_, _++_, List·Memᴰ·head, List·Memᴰ·tail}
+use mathlib.Core.List.{List, [], _∷_, _++_, List·Memᴰ·head, List·Memᴰ·tail, List·Memᴰ·append-cases}
 use mathlib.Core.Path.{_≡_, refl, ap, sym, _∙_}
 use mathlib.Core.Logic.{_⊎_, inl, inr, ⊎-elim, _≢_}
 use native.Mathlib.Omega.{arith}
@@ -8,7 +8,7 @@ use lib.Dec.{lit<}
 use lib.ListN.{length, getD}
 use borrow.Author.Tests.{le-leb, lt-leb}
 use Rattle.lists.specs.Cases.{lt-or}
-use Rattle.lists.specs.Quantify.{Every}
+use Rattle.lists.specs.Quantify.{Every, every-cons, every-none}
 use Rattle.words.specs.Bytes.{Apart}
 use Rattle.words.specs.Numbers.{le, leBytes, putLe}
 use Rattle.words.proofs.Bytes.{getD-sets-out}
@@ -87,6 +87,20 @@ module _ {z : Shape} {len : ℕ} (fr : Framed z len) (img : List ℕ) where
 abbrev pub written : Write → Place
 written (p ≔ v) = p
 
+-- some writes leave place q
+abbrev pub Spares : Shape → Place → List Write → Type 0
+Spares z q ws = Every ws (λ w. In z (written w) × (q ≢ written w))
+
+module _ (z : Shape) (q : Place) where
+  pub spare-none : Spares z q []
+  spare-none = every-none (λ w. In z (written w) × (q ≢ written w))
+
+  pub spare : (p : Place) (v : ℕ) (ws : List Write) → In z p → q ≢ p → Spares z q ws → Spares z q ((p ≔ v) ∷ ws)
+  spare p v ws h ne e = every-cons (λ w. In z (written w) × (q ≢ written w)) (p ≔ v) ws (h, ne) e
+
+  pub spares-both : (ws vs : List Write) → Spares z q ws → Spares z q vs → Spares z q (ws ++ vs)
+  spares-both ws vs a b w m = ⊎-elim (λ k. a w k) (λ k. b w k) (List·Memᴰ·append-cases ws m)
+
 pub puts-append : (z : Shape) (img : List ℕ) (ws vs : List Write) → puts z img (ws ++ vs) ≡ puts z (puts z img ws) vs
 unfolding puts
 puts-append z img [] vs = refl
@@ -103,7 +117,7 @@ image-puts i [] = i
 image-puts i ((p ≔ v) ∷ ws) = image-puts (image-put i p v) ws
 
 pub get-puts-other : {z : Shape} {len : ℕ} → Framed z len → (img : List ℕ) (ws : List Write) (q : Place)
-    → In z q → Every ws (λ w. In z (written w) × (q ≢ written w)) → get z (puts z img ws) q ≡ get z img q
+    → In z q → Spares z q ws → get z (puts z img ws) q ≡ get z img q
 unfolding puts
 get-puts-other fr img [] q k h = refl
 get-puts-other {z} fr img ((p ≔ v) ∷ ws) q k h =
@@ -112,7 +126,7 @@ get-puts-other {z} fr img ((p ≔ v) ∷ ws) q k h =
 
 -- a write of a place, followed by writes of other places
 pub get-puts-here : {z : Shape} {img : List ℕ} → Image z img → (us : List Write) (p : Place) (v : ℕ) (vs : List Write) → In z p → v < 256 ^ wide z p
-    → Every vs (λ w. In z (written w) × (p ≢ written w)) → get z (puts z img (us ++ (p ≔ v) ∷ vs)) p ≡ v
+    → Spares z p vs → get z (puts z img (us ++ (p ≔ v) ∷ vs)) p ≡ v
 unfolding puts
 get-puts-here {z} {img} im us p v vs h f e =
     ap (λ (r : List ℕ). get z r p) (puts-append z img us ((p ≔ v) ∷ vs))

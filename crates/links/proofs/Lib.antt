@@ -6,3 +6,4 @@ pub mod Follow
 pub mod Edits
 pub mod Along
 pub mod Example
+pub mod Standing

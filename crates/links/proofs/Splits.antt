@@ -27,5 +27,10 @@ module _ (t : ℕ) (xs ys : List ℕ) where
       (λ k. ⊎-elim (λ q. absurd (ne q)) (λ w. Memᴰ·append-right xs w) (List·Memᴰ·cases-cons k))
       (List·Memᴰ·append-cases xs m)
 
+  -- and no other comes
+  pub member-with : {x : ℕ} → List·Memᴰ x (xs ++ ys) → List·Memᴰ x (xs ++ (t ∷ ys))
+  member-with m =
+      ⊎-elim (λ k. Memᴰ·append-left (t ∷ ys) k) (λ k. Memᴰ·append-right xs (List·Memᴰ·tail k)) (List·Memᴰ·append-cases xs m)
+
   pub length-without : length (xs ++ (t ∷ ys)) ≡ suc (length (xs ++ ys))
   length-without = omega (arith, length-append xs ys, length-append xs (t ∷ ys))

@@ -1,15 +1,19 @@
--- An entry that is placed: the image is sound but for the tier's counters, and has one key and record more.
+-- An entry that is placed: the image is sound but for the tier's counters, and has one key and record more; the tier is not empty.
 use Prim.Native.Nat.{ℕ, _+_, _<_}
 use mathlib.Core.List.{List, _∷_}
 use mathlib.Core.Path.{_≡_, ap, _∙_}
+use mathlib.Core.Logic.{_≢_}
 use native.Mathlib.Omega.{arith}
+use lib.ListN.{length}
 use Rattle.lists.specs.Lists.{total}
 use Rattle.layout.specs.declared.Shape.{Shape}
 use Rattle.chains.specs.Chains.{chain}
+use Rattle.entries.specs.Live.{fullSlots}
 use Rattle.entries.specs.Pairs.{Pair, pairsOf}
 use Rattle.sound.specs.Sound.{SoundBut}
 use Rattle.placement.specs.Placement.{placeAt}
 use Rattle.sound.proofs.Values.{pairFor, weigh}
+use Rattle.sound.proofs.Empty.{none-slots, empty-weigh}
 use Rattle.sound.proofs.Replaced.{OnlyTier, tier-replaced, pairs-replaced}
 use Rattle.chains.proofs.AgreeChains.{same-chain}
 pub use Rattle.placement.proofs.Before.{Places}
@@ -51,3 +55,9 @@ module _ {z : Shape} {img but : List ℕ} {s t c : ℕ} {key value : List ℕ} (
       → total (pairsOf z (placeAt z img t c key value)) F ≡ total (pairsOf z img) F + F (record { key = key; value = value })
   place-pairs F =
       rw place-is (omega (arith, pairs-replaced z img s t (p .segmentIn) (p .sound) (p .tierIn) m only F, weighs F))
+
+  -- the tier has an entry now
+  pub place-full : length (fullSlots z (placeAt z img t c key value) t) ≢ 0
+  place-full none =
+      let empty : length (fullSlots z m t) ≡ 0 = rw place-is at none in
+      omega (arith, weighs (λ _. 1), empty-weigh z m t (none-slots z m t empty) (λ _. 1))

@@ -1,6 +1,6 @@
--- Where some tier takes an entry, the first that takes it is found.
+-- Where some tier takes an entry, the first that takes it is found, and it is that one or one before it.
 use Prim.Native.Nat.{ℕ, suc, _+_, _-_, _≤_}
-use mathlib.Core.List.{List, [], _∷_, List·Memᴰ, List·Memᴰ·cases-cons, List·Memᴰ·not-nil}
+use mathlib.Core.List.{List, [], _∷_, _++_, List·Memᴰ, List·Memᴰ·cases-cons, List·Memᴰ·not-nil}
 use mathlib.Core.Path.{_≡_, refl, sym, _∙_}
 use mathlib.Core.Logic.{_≢_, ⊎-elim}
 use mathlib.Core.Bool.{Bool, true, false}
@@ -60,6 +60,19 @@ module _ (z : Shape) (full : ℕ → ℕ) (isClear : ℕ → ℕ → Bool) (n : 
       (λ (q : t ≡ u). absurd (run-taken t c k (rw q e)))
       (λ more. first-taken t c k ts more)
       (List·Memᴰ·cases-cons m))
+
+  -- nor does it matter what comes after that tier
+  pub first-within : (t c : ℕ) → Takes z full isClear t c n → (xs ys : List ℕ)
+      → firstRun z full isClear (xs ++ (t ∷ ys)) n ≡ firstRun z full isClear (xs ++ (t ∷ [])) n
+  unfolding firstRun
+  first-within t c k [] ys = here (runIn z full isClear t n) refl
+    where
+      here : (r : Run) → runIn z full isClear t n ≡ r → firstRun z full isClear (t ∷ ys) n ≡ firstRun z full isClear (t ∷ []) n
+      here (At u d) e = rw (e, firstRun)
+      here Nowhere e = absurd (run-taken t c k e)
+  first-within t c k (x ∷ xs) ys =
+      let later : firstRun z full isClear (xs ++ (t ∷ ys)) n ≡ firstRun z full isClear (xs ++ (t ∷ [])) n = first-within t c k xs ys in
+      λ i. elim (runIn z full isClear x n) [ At u d ↦ At u d | Nowhere ↦ later i ]
 
 -- a tier with an empty slot has fewer full ones than slots
 pub some-empty-few : (z : Shape) (img : List ℕ) (t : ℕ) → SomeEmpty z img t → fullIn z img t + 1 ≤ z .settings .slots

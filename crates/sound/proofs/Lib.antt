@@ -9,3 +9,4 @@ pub mod Elsewhere
 pub mod KeyCounts
 pub mod Marked
 pub mod Framing
+pub mod Empty
