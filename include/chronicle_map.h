@@ -123,7 +123,8 @@ uint32_t chronicle_map_store(const uint8_t *block, size_t block_len,
 /*
  * The tight store: the same, but what it replaces is always removed first, in effect, and the new entry goes
  * to the lowest run of chunks in the first tier that takes it. A new key is stored alike by both. Neither
- * returns 10 for a replacement that takes as many chunks as the old entry, or fewer.
+ * returns 10 for a replacement that takes as many chunks as the old entry, or fewer. Where the old entry was the
+ * only one of an extra tier and an earlier tier takes the new one, the old tier becomes free as after a removal.
  */
 uint32_t chronicle_map_store_tight(const uint8_t *block, size_t block_len,
                                    uint8_t *image, size_t image_len,
@@ -132,6 +133,8 @@ uint32_t chronicle_map_store_tight(const uint8_t *block, size_t block_len,
 
 /*
  * Removes a key with its record; every other key keeps its record. Returns 0, 1 or one of 2 to 8.
+ * Where this was the last entry of an extra tier, the tier leaves its segment's chain and becomes the first free
+ * one, which a later store of any segment may take.
  */
 uint32_t chronicle_map_remove(const uint8_t *block, size_t block_len,
                               uint8_t *image, size_t image_len,

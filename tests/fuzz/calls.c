@@ -59,16 +59,62 @@ static void on_the_spot(const uint8_t *block, const uint8_t *before, const uint8
     }
 }
 
+/* A field of the settings block, from 1 on. */
+static uint64_t field(const uint8_t *block, size_t n) {
+    const uint8_t *bytes = block + 4 * n - 1;
+    return (uint64_t)bytes[0] << 24 | (uint64_t)bytes[1] << 16 | (uint64_t)bytes[2] << 8 | bytes[3];
+}
+
+/* How many entries of the list stand in a tier. */
+static uint64_t entries_in(const uint8_t *block, const uint8_t *image, size_t length, uint64_t tier) {
+    struct chronicle_map_row row;
+    uint64_t entries = 0;
+    for (uint64_t n = 0; chronicle_map_entry(block, BLOCK, image, length, n, &row) == 0; n++) {
+        entries += row.tier == tier;
+    }
+    return entries;
+}
+
+/* A store or a removal answered 0. An extra tier in which the key's entry was the only one is the first free tier after it, unless the key's
+ * entry is there again; no other tier has left or joined a chain then. */
+static void sent_home(const uint8_t *block, const uint8_t *before, const uint8_t *after, size_t length, const uint8_t *key, size_t key_length) {
+    struct chronicle_map_counts was, is;
+    struct chronicle_map_place place;
+    struct chronicle_map_row old = row_of(block, before, length, key, key_length, &place);
+    struct chronicle_map_row row = row_of(block, after, length, key, key_length, &place);
+    if (old.tier <= field(block, 2) || entries_in(block, before, length, old.tier) != 1) {
+        return;
+    }
+    uint64_t home = row.tier != old.tier;
+    const uint8_t *first_free = after + field(block, 1) + 11;
+    need(chronicle_map_check(block, BLOCK, before, length, &was) == 0);
+    need(chronicle_map_check(block, BLOCK, after, length, &is) == 0);
+    need(is.tiers == was.tiers - home && is.free == was.free + home);
+    need(!home || first_free[0] + 256u * first_free[1] == old.tier);
+}
+
 /* Both kinds of store, with the key as the record: they answer the same number. */
 static void stored(const uint8_t *block, const uint8_t *image, uint8_t *copy, size_t length, const uint8_t *key, size_t key_length) {
     uint32_t tight = chronicle_map_store_tight(block, BLOCK, copy, length, key, key_length, key, key_length);
     edited(tight, 10, block, image, copy, length);
+    if (tight == 0) {
+        sent_home(block, image, copy, length, key, key_length);
+    }
     memcpy(copy, image, length);
     uint32_t number = chronicle_map_store(block, BLOCK, copy, length, key, key_length, key, key_length);
     edited(number, 10, block, image, copy, length);
     need(number == tight);
     if (number == 0) {
         on_the_spot(block, image, copy, length, key, key_length);
+        sent_home(block, image, copy, length, key, key_length);
+    }
+}
+
+static void removed(const uint8_t *block, const uint8_t *image, uint8_t *copy, size_t length, const uint8_t *key, size_t key_length) {
+    uint32_t number = chronicle_map_remove(block, BLOCK, copy, length, key, key_length);
+    edited(number, 8, block, image, copy, length);
+    if (number == 0) {
+        sent_home(block, image, copy, length, key, key_length);
     }
 }
 
@@ -178,7 +224,7 @@ int LLVMFuzzerTestOneInput(const uint8_t *data, size_t size) {
     memcpy(copy, image, length);
     stored(block, image, copy, length, key, key_length);
     memcpy(copy, image, length);
-    edited(chronicle_map_remove(block, BLOCK, copy, length, key, key_length), 8, block, image, copy, length);
+    removed(block, image, copy, length, key, key_length);
     memcpy(copy, image, length);
     pairs(number, block, image, copy, length, &pair);
     memcpy(copy, image, length);

@@ -221,7 +221,8 @@ pub fn store(block: &[u8], image: &mut [u8], key: &[u8], value: &[u8]) -> Result
 /// The tight store: what it replaces is always removed first, in effect, and the new entry goes to the lowest run of chunks
 /// in the first tier that takes it. A new key is stored alike by both. Refusals: `Block` to `Full`.
 ///
-/// Neither is refused with `Full` where it replaces an entry of as many chunks, or of more.
+/// Neither is refused with `Full` where it replaces an entry of as many chunks, or of more. Where the old entry was the only one of
+/// an extra tier and an earlier tier takes the new one, the old tier becomes free as after `remove`.
 pub fn store_tight(
     block: &[u8],
     image: &mut [u8],
@@ -240,6 +241,8 @@ fn done(number: u32) -> Result<(), Refusal> {
 }
 
 /// Removes a key with its record, and says whether it was there. Every other key keeps its record. Refusals: `Block` to `Key`.
+///
+/// Where this was the last entry of an extra tier, the tier leaves its segment's chain and becomes the first free one.
 pub fn remove(block: &[u8], image: &mut [u8], key: &[u8]) -> Result<bool, Refusal> {
     match ffi::remove(block, image, key) {
         0 => Ok(true),

@@ -63,6 +63,21 @@ fn an_absent_key_says_where_the_search_ended() {
     assert_eq!(lookup(block, &image, &[4, 1]).map(Located::range), Ok(None));
 }
 
+// Tier 2 takes the fourth key; once that key is removed the tier is free again, and the next such key takes it.
+#[test]
+fn an_emptied_tier_becomes_free() {
+    let (block, mut image) = pairs();
+    let tiers = |image: &[u8]| check(block, image).map(|counts| (counts.tiers, counts.free));
+    assert_eq!(store(block, &mut image, &[3, 1], &[0; 4]), Ok(()));
+    assert_eq!(store(block, &mut image, &[1, 3], &[0; 4]), Ok(()));
+    assert_eq!(tiers(&image), Ok((2, 0)));
+    let full = image.clone();
+    assert_eq!(remove(block, &mut image, &[1, 3]), Ok(true));
+    assert_eq!(tiers(&image), Ok((1, 1)));
+    assert_eq!(store(block, &mut image, &[1, 3], &[0; 4]), Ok(()));
+    assert_eq!(image, full);
+}
+
 #[test]
 fn a_store_alters_its_own_key_alone() {
     let (block, mut image) = pairs();

@@ -24,6 +24,7 @@ use Rattle.search.specs.Search.{firstEmpty, search}
 use Rattle.search.proofs.Finding.{search-absent}
 use Rattle.sound.specs.Sound.{SoundImage}
 use Rattle.counters.specs.Recount.{settle}
+use Rattle.unlinking.proofs.Emptied.{main-stays}
 use Rattle.edit.specs.Edits.{find, withoutEntry, removedEntry, removeImage, noRoom}
 use Rattle.edit.specs.declared.Policy.{Policy}
 use Rattle.edit.specs.Replaced.{isThere, Stores}
@@ -136,7 +137,9 @@ module _ (z : Shape) (img key : List ℕ) where
   absent-by : (o : Option Live) {img′ : List ℕ} → find z img key ≡ o → isThere o ≡ false → img′ ≡ removeImage z img key
       → record { answer = answer.Absent; image = img′ } ≡ removeFound z img key o
   unfolding removeFound removeImage removedEntry withoutEntry settle
-  absent-by none f t e = let g : removeImage z img key ≡ img = ap (removedEntry z img) f in λ i. record { answer = answer.Absent; image = (e ∙ g) i }
+  absent-by none f t e =
+      let g : removeImage z img key ≡ img = ap (removedEntry z img) f ∙ main-stays z img 0 (omega arith) in
+      λ i. record { answer = answer.Absent; image = (e ∙ g) i }
   absent-by (some x) f t e = absurd (let q : _≡_ {A = ℕ} 0 1 = cc in omega arith)
 
   module _ (r : Bool) (er : r ≡ isThere (find z img key)) {img′ : List ℕ} (e : img′ ≡ removeImage z img key) where

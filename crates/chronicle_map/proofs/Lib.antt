@@ -15,5 +15,6 @@ pub mod LowMarks
 pub mod Replacing
 pub mod Viewing
 pub mod Growing
+pub mod Emptying
 pub mod Worked
 pub mod Laws

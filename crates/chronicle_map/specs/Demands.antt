@@ -22,7 +22,7 @@ use Rattle.probe.specs.Ring.{dist}
 use Rattle.entries.specs.declared.Live.{Live}
 use Rattle.entries.specs.Keys.{KeyFits, segmentOf, lookupKey, start}
 use Rattle.entries.specs.Stored.{keyOf, chunksFor, longestValue, entryBytes}
-use Rattle.entries.specs.Live.{slotAt, live}
+use Rattle.entries.specs.Live.{slotAt, fullSlots, live}
 use Rattle.chunks.specs.Chunks.{covers}
 use Rattle.entries.specs.Pairs.{Pair, pairOf}
 use Rattle.sound.specs.Sound.{ImageFits}
@@ -30,7 +30,8 @@ use Rattle.counters.specs.LowMarks.{LowMarks}
 use Rattle.growing.specs.Growing.{grown, noBulk, IsNew, GrowWrites}
 use Rattle.edit.specs.declared.Policy.{Policy}
 use Rattle.edit.specs.declared.Policy.the-variants.{OnTheSpot, Tight}
-use Rattle.edit.specs.Edits.{removeTiers, storeTiers}
+use Rattle.unlinking.specs.GoingHome.{ChainsStay, GoneHome}
+use Rattle.edit.specs.Edits.{removeTiers, storeTiers, spotOf, takingTier}
 use Rattle.image.specs.declared.Counts.{Counts}
 use Rattle.image.specs.declared.Outcome.{Outcome}
 use Rattle.image.specs.declared.Outcome.the-variants as outcome
@@ -239,6 +240,46 @@ pub record Growth (block img : List ℕ) : Type 0 where
   pub refused : noBulk (shape block img) (length img) ≡ true → answerNumber (grow block img .answer) ≡ 13
   pub done : noBulk (shape block img) (length img) ≡ false → answerNumber (grow block img .answer) ≡ 0
   pub grown : answerNumber (grow block img .answer) ≡ 0 → Grown block img (grow block img .image)
+
+-- ---- request A13, for an accepted image: an extra tier that an edit empties goes home
+
+-- e is the only entry of its tier, which is an extra one
+pub record AloneInExtra (block img : List ℕ) (e : Live) : Type 0 where
+  pub extra : IsExtra (shape block img) (e .tier)
+  pub alone : length (fullSlots (shape block img) img (e .tier)) ≡ 1
+
+-- what becomes of e's tier, where `after` is the image after an edit of e's key
+module _ (block img after : List ℕ) (e : Live) where
+  -- it goes home; or, where a record takes e's place, tier u before it takes the record, and it goes home, or it takes the record itself
+  abbrev pub TierGoes : Type 0
+  TierGoes = (xs : List ℕ) × (ys : List ℕ) × GoneHome (shape block img) img after (e .segment) (e .tier) xs ys
+
+  abbrev pub TierReplaced : ℕ → Type 0
+  TierReplaced u =
+      ((xs : List ℕ) × (ys : List ℕ) × (List·Memᴰ u xs × GoneHome (shape block img) img after (e .segment) (e .tier) xs ys))
+      ⊎ ((u ≡ e .tier) × ChainsStay (shape block img) img after)
+
+-- an extra tier that had an entry and has none in the image `after` an edit is in no segment's chain
+abbrev pub NoneLeft : (block img after : List ℕ) → Type 0
+NoneLeft block img after = (t : ℕ) → IsExtra (shape block img) t → length (fullSlots (shape block img) img t) ≢ 0
+    → length (fullSlots (shape block img) after t) ≡ 0 → List·Memᴰ t (chained (shape block img) after) → ⊥
+
+pub record EmptyTiers (block img : List ℕ) : Type 0 where
+  -- a removal sends the tier home exactly where it empties it, and else leaves every chain as it was
+  pub removed : (e : Live) → List·Memᴰ e (live (shape block img) img) → (key : List ℕ) → keyOf img (e .entry) ≡ key
+      → AloneInExtra block img e → TierGoes block img (remove block img key .image) e
+  pub kept : (e : Live) → List·Memᴰ e (live (shape block img) img) → (key : List ℕ) → keyOf img (e .entry) ≡ key
+      → (AloneInExtra block img e → ⊥) → ChainsStay (shape block img) img (remove block img key .image)
+  -- no tier that an edit emptied is left in a segment's chain
+  pub noneLeft : (key : List ℕ) → NoneLeft block img (remove block img key .image)
+  pub noneLeftByStore : (policy : Policy) (key value : List ℕ) → Bytes key → Bytes value → NoneLeft block img (store policy block img key value .image)
+  -- a record stored in the place of such an entry is not answered 10, and where it does not stay on the spot an earlier tier takes it, or its own
+  pub neverFull : (policy : Policy) (e : Live) → List·Memᴰ e (live (shape block img) img) → (key value : List ℕ) → keyOf img (e .entry) ≡ key
+      → AloneInExtra block img e → answerNumber (store policy block img key value .answer) ≢ 10
+  pub replaced : (policy : Policy) (e : Live) → List·Memᴰ e (live (shape block img) img) → (key value : List ℕ) → keyOf img (e .entry) ≡ key
+      → Bytes key → Bytes value → answerNumber (store policy block img key value .answer) ≡ 0
+      → spotOf policy (shape block img) img key value ≡ none → AloneInExtra block img e
+      → TierReplaced block img (store policy block img key value .image) e (takingTier (shape block img) img key value)
 
 -- ---- demand 3, for an accepted image and any list of calls
 

@@ -7,6 +7,7 @@ use Rattle.removal.specs.Removal.{removeAt}
 use Rattle.placement.specs.Runs.{fromLowest, clearFrom, lowestRun, runIn, firstRun, runFor}
 use Rattle.placement.specs.Placement.{written, slotted, placeAt}
 use Rattle.joining.specs.Joining.{join}
+use Rattle.unlinking.specs.Unlinking.{later, unlink, isEmptyExtra, unlinkEmpty}
 use Rattle.growing.specs.Growing.{noBulk, emptySlots, emptyTier, afterNew, newTiers, growImage}
 use Rattle.edit.specs.Edits.{find, withoutEntry, without, removedEntry, removeImage, runOf, noRoom, placeIn, onTheSpot, entryIn, storedEntry, storeImage}
 use Rattle.chronicle_map.specs.Asked.{givenKeyFits?, givenValueFits?, afterValue, afterKey, afterExamined, asked}
@@ -15,5 +16,5 @@ use Rattle.chronicle_map.specs.History.{says, leaves, toldOf, run, answe
 use Rattle.image.specs.Everything.{everything as Image·everything}
 
 unfoldable pub everything : ℕ
-unfolding Image·everything stays shift Probe·remove pairsOf recount settle touched removeAt fromLowest clearFrom lowestRun runIn firstRun runFor written slotted placeAt join noBulk emptySlots emptyTier afterNew newTiers growImage find withoutEntry without removedEntry removeImage runOf noRoom placeIn onTheSpot entryIn storedEntry storeImage givenKeyFits? givenValueFits? afterValue afterKey afterExamined asked fromFind lookedUp lookup recordAt recordLength recordBytes removeFound removing remove storeUnless storing store growUnless growing grow says leaves toldOf run answers told
+unfolding Image·everything stays shift Probe·remove pairsOf recount settle touched removeAt fromLowest clearFrom lowestRun runIn firstRun runFor written slotted placeAt join later unlink isEmptyExtra unlinkEmpty noBulk emptySlots emptyTier afterNew newTiers growImage find withoutEntry without removedEntry removeImage runOf noRoom placeIn onTheSpot entryIn storedEntry storeImage givenKeyFits? givenValueFits? afterValue afterKey afterExamined asked fromFind lookedUp lookup recordAt recordLength recordBytes removeFound removing remove storeUnless storing store growUnless growing grow says leaves toldOf run answers told
 everything = 0

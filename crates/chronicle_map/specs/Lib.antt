@@ -4,3 +4,4 @@ pub mod History
 pub mod Demands
 pub mod Everything
 pub mod Worked
+pub mod WorkedHome

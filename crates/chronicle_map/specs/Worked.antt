@@ -1,5 +1,5 @@
--- The worked store X: the cases p1 to p10 of the scope and those of the requests that followed as one list, each an image, the calls made
--- on it, a question and what is due.
+-- The worked store X: the cases p1 to p10 of the scope and those of the requests up to A4, each an image, the calls made on it, a question
+-- and what is due. WorkedHome.antt has the one list of all cases.
 use Prim.Native.Nat.{ℕ, suc}
 use mathlib.Core.List.{List, [], _∷_, _++_, map}
 use mathlib.Core.Bool.{true, false}
@@ -146,8 +146,8 @@ got (case img calls q d) = reply img (run blockX img calls) calls q
 abbrev pub due : Case → List ℕ
 due (case img calls q d) = d
 
-unfoldable pub cases : List Case
-cases =
+unfoldable pub earlier : List Case
+earlier =
     -- p1
     case imageX [] checks (0 ∷ 0 ∷ 0 ∷ 1 ∷ 1 ∷ [])
     ∷ case imageX [] (finds (pair 1 2)) (1 ∷ 0 ∷ 0 ∷ 1 ∷ 1 ∷ [])

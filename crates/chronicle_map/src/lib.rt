@@ -150,7 +150,7 @@ fn remove_accepted(z: Shape, img: &mut [u8], key: &[u8]) -> Answer
     Answer::Absent
 }
 
-// Removes the entry of a key.
+// Removes the entry of a key. An extra tier that this empties becomes the first free one.
 pub fn remove(block: &[u8], img: &mut [u8], key: &[u8]) -> Answer
     ensures { λ r. ⌜ record { answer = r; image = now (img .exit) } ≡ Calls·remove (now (block .entry)) (now (img .entry)) (now (key .entry)) ⌝ }
 {

@@ -18,6 +18,7 @@ use Rattle.placement.specs.Asking.{CanWrite}
 use Rattle.placement.specs.Walking.{Walked}
 use Rattle.placement.specs.Placement.{writeEntry}
 use Rattle.placement.proofs.Rewriting.{rewrite-asks}
+use Rattle.unlinking.proofs.Emptied.{main-stays}
 use Rattle.edit.specs.declared.Policy.{Policy}
 use Rattle.edit.specs.declared.Policy.the-variants.{Tight}
 use Rattle.edit.specs.Edits.{find, onTheSpot, spotOf, entryIn, storedEntry, storeImage}
@@ -73,7 +74,10 @@ module _ {z : Shape} {img key value : List ℕ} {w : Walk} {n : ℕ} (k : Walks 
       unfolding storeImage storedEntry entryIn settle oldOf
       spot-stored ey = (
         replacement-room z img (k .storable .sound) key value e (spot .1 .found) (omega (arith, spot .1 .asMany)),
-        ey ∙ ap (λ (o : Old). writeEntry z img (o .tier) (o .chunk) key value) old-here ∙ sym (ap (storedEntry z img key value) spot-of),
+        ey
+            ∙ ap (λ (o : Old). writeEntry z img (o .tier) (o .chunk) key value) old-here
+            ∙ sym (main-stays z _ 0 (omega arith))
+            ∙ sym (ap (storedEntry z img key value) spot-of),
       )
 
     -- ---- as the tight store

@@ -8,5 +8,8 @@ pub mod Policies
 pub mod OnTheSpot
 pub mod Stored
 pub mod Views
+pub mod Staying
+pub mod Emptying
+pub mod NoneLeft
 pub mod Storage
 pub mod Choosing

@@ -24,6 +24,7 @@ use Rattle.removal.proofs.Removing.{removal-pairs}
 use Rattle.placement.specs.Placement.{writeEntry}
 use Rattle.placement.proofs.Rewriting.{Rewrites, rewrite-lows}
 use Rattle.placement.proofs.Rewritten.{rewrite-sound, rewrite-pairs}
+use Rattle.unlinking.proofs.Emptied.{main-stays}
 use Rattle.edit.specs.Edits.{find, tiersBy, entryIn, storedEntry}
 use Rattle.edit.specs.Replaced.{Storable}
 use Rattle.edit.proofs.Finding.{find-live}
@@ -71,7 +72,7 @@ module _ {z : Shape} {img key value : List ℕ} {e : Live} (w : WritesOver z img
   -- the image after it
   pub spot-is : storedEntry z img key value (some e) ≡ writeEntry z img (e .tier) (chunkOf z img (e .tier) (e .slot)) key value
   unfolding storedEntry entryIn settle
-  spot-is = ap (λ (c : ℕ). writeEntry z img (e .tier) c key value) (spot-chunk z img key e (w .isFound))
+  spot-is = main-stays z _ 0 (omega arith) ∙ ap (λ (c : ℕ). writeEntry z img (e .tier) c key value) (spot-chunk z img key e (w .isFound))
 
   pub spot-sound : SoundImage z (storedEntry z img key value (some e))
   spot-sound = rw spot-is (rewrite-sound rewrites)

@@ -1,7 +1,7 @@
 -- The entry that an edit removes: where the search found it, and the image without it.
 use Prim.Native.Nat.{ℕ, _+_, _≤_, _<_}
 use mathlib.Core.List.{List}
-use mathlib.Core.Path.{_≡_, refl, ap, ap₂, sym, _∙_, subst}
+use mathlib.Core.Path.{_≡_, refl, ap, ap₂, sym, _∙_, subst, subst₂}
 use mathlib.Core.Logic.{_≢_}
 use mathlib.Core.Bool.{true, false}
 use mathlib.Core.Option.{Option, none, some}
@@ -34,9 +34,13 @@ use Rattle.placement.specs.declared.Old.{Old}
 use Rattle.placement.specs.OldEntry.{noOld, oldAt, oldFound}
 use Rattle.placement.specs.Placement.{placeAt}
 use Rattle.joining.specs.Joining.{join}
-use Rattle.edit.specs.Edits.{find, withoutEntry, without, removedEntry, removeImage, tierOf}
-use Rattle.edit.specs.Replaced.{oldOf, withoutOld, replacedOld, extendedOld, OldFits, isThere}
+use Rattle.unlinking.specs.Unlinking.{unlinkEmpty}
+use Rattle.unlinking.specs.Asking.{CanUnlinkEmpty}
+use Rattle.unlinking.proofs.Emptied.{main-stays}
+use Rattle.edit.specs.Edits.{find, withoutEntry, without, left, removedEntry, removeImage, tierOf}
+use Rattle.edit.specs.Replaced.{oldOf, withoutOld, placedOld, replacedOld, extendedOld, OldFits, isThere}
 use Rattle.edit.proofs.Finding.{find-live, search-found, search-none}
+use Rattle.edit.proofs.Without.{remove-leaves}
 
 -- ---- removed, or there is none
 
@@ -51,11 +55,16 @@ module _ (z : Shape) (img : List ℕ) (old : Old) where
 
 -- the steps of a store, where the code has the image after each
 module _ (z : Shape) (img : List ℕ) (old : Old) where
-  pub replaced-is : (t c : ℕ) (key value : List ℕ) {one two three : List ℕ} → one ≡ withoutOld z img old → two ≡ placeAt z one t c key value
-      → three ≡ settle z two (touched t (old .tier)) → three ≡ replacedOld z img old t c key value
-  unfolding replacedOld
-  replaced-is t c key value e₁ e₂ e₃ =
+  pub placed-is : (t c : ℕ) (key value : List ℕ) {one two three : List ℕ} → one ≡ withoutOld z img old → two ≡ placeAt z one t c key value
+      → three ≡ settle z two (touched t (old .tier)) → three ≡ placedOld z img old t c key value
+  unfolding placedOld
+  placed-is t c key value e₁ e₂ e₃ =
       e₃ ∙ ap (λ (x : List ℕ). settle z x (touched t (old .tier))) (e₂ ∙ ap (λ (x : List ℕ). placeAt z x t c key value) e₁)
+
+  pub replaced-is : (t c : ℕ) (key value : List ℕ) {three four : List ℕ} → three ≡ placedOld z img old t c key value
+      → four ≡ unlinkEmpty z three (old .tier) → four ≡ replacedOld z img old t c key value
+  unfolding replacedOld
+  replaced-is t c key value e₃ e₄ = e₄ ∙ ap (λ (x : List ℕ). unlinkEmpty z x (old .tier)) e₃
 
   pub extended-is : (s t : ℕ) (key value : List ℕ) {one two three four : List ℕ} → one ≡ withoutOld z img old → two ≡ join z one s
       → three ≡ placeAt z two t 0 key value → four ≡ settle z three (touched t (old .tier)) → four ≡ extendedOld z img old s t key value
@@ -139,10 +148,11 @@ module _ (z : Shape) (img : List ℕ) (sound : SoundImage z img) where
 
     none-by : (o : Option Live) → find z img key ≡ o → tierOf o ≡ 0 → (false ≡ isThere o) × (img ≡ removedEntry z img o)
     unfolding removedEntry withoutEntry settle
-    none-by none f q = (refl, refl)
+    none-by none f q = (refl, sym (main-stays z img 0 (omega arith)))
     none-by (some e) f q = absurd (found-tier e f q)
 
-    some-by : (o : Option Live) → tierOf o ≢ 0 → (true ≡ isThere o) × (recount z (withoutEntry z img o) (tierOf o) ≡ removedEntry z img o)
+    some-by : (o : Option Live) → tierOf o ≢ 0
+        → (true ≡ isThere o) × (unlinkEmpty z (recount z (withoutEntry z img o) (tierOf o)) (tierOf o) ≡ removedEntry z img o)
     unfolding removedEntry withoutEntry settle
     some-by none q = absurd (q refl)
     some-by (some e) q = (refl, refl)
@@ -163,13 +173,27 @@ module _ (z : Shape) (img : List ℕ) (sound : SoundImage z img) where
       unfolding removeImage
       removes-none q = none-by (find z img key) refl (sym old-tier ∙ q)
 
-      pub removes-some : old .tier ≢ 0 → {x y : List ℕ} → x ≡ withoutOld z img old → y ≡ recount z x (old .tier)
-          → (true ≡ isThere (find z img key)) × (y ≡ removeImage z img key)
-      unfolding removeImage without
-      removes-some q ex ey =
-          let r : (true ≡ isThere (find z img key)) × (recount z (withoutEntry z img (find z img key)) (tierOf (find z img key)) ≡ removeImage z img key) =
-          some-by (find z img key) (λ e. q (old-tier ∙ e)) in
-          (r .0, ey ∙ ap₂ (recount z) (ex ∙ withoutOld-is) old-tier ∙ r .1)
+      module _ (q : old .tier ≢ 0) {x y : List ℕ} (ex : x ≡ withoutOld z img old) (ey : y ≡ recount z x (old .tier)) where
+        recounted : y ≡ recount z (without z img key) (tierOf (find z img key))
+        recounted = ey ∙ ap₂ (recount z) (ex ∙ withoutOld-is) old-tier
+
+        settled-by : (o : Option Live) → tierOf o ≢ 0 → settle z (without z img key) (left o) ≡ recount z (without z img key) (tierOf o)
+        unfolding settle
+        settled-by none ne = absurd (ne refl)
+        settled-by (some e) ne = refl
+
+        pub removes-leaves : CanUnlinkEmpty z y (old .tier)
+        removes-leaves =
+            subst₂ (CanUnlinkEmpty z) (settled-by (find z img key) (λ e. q (old-tier ∙ e)) ∙ sym recounted) (sym old-tier)
+            (remove-leaves z img sound key)
+
+        pub removes-some : {i : List ℕ} → i ≡ unlinkEmpty z y (old .tier) → (true ≡ isThere (find z img key)) × (i ≡ removeImage z img key)
+        unfolding removeImage without
+        removes-some ei =
+            let o : Option Live = find z img key in
+            let r : (true ≡ isThere o) × (unlinkEmpty z (recount z (withoutEntry z img o) (tierOf o)) (tierOf o) ≡ removeImage z img key) =
+            some-by o (λ e. q (old-tier ∙ e)) in
+            (r .0, ei ∙ ap₂ (unlinkEmpty z) recounted old-tier ∙ r .1)
 
     -- ---- by the search
 

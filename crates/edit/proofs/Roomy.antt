@@ -1,7 +1,7 @@
--- Where the row of 10 never holds: while a tier is free; and for a replacement that takes as many chunks as the old entry, or fewer, because
--- its own tier takes it.
-use Prim.Native.Nat.{ℕ, _≤_}
-use mathlib.Core.List.{List, List·Memᴰ}
+-- Where the row of 10 never holds: while a tier is free; for a replacement that takes as many chunks as the old entry, or fewer, because
+-- its own tier takes it; and for one whose old entry was alone in its tier, because that tier takes any entry.
+use Prim.Native.Nat.{ℕ, _≤_, _<_}
+use mathlib.Core.List.{List, [], _∷_, _++_, List·Memᴰ}
 use mathlib.Core.Path.{_≡_, refl, ap, sym, _∙_, subst}
 use mathlib.Core.Logic.{_≢_}
 use mathlib.Core.Bool.{false}
@@ -13,19 +13,21 @@ use Rattle.layout.specs.declared.Shape.{Shape}
 use Rattle.chains.specs.Chains.{chain, freeHead}
 use Rattle.entries.specs.declared.Live.{Live}
 use Rattle.entries.specs.Keys.{segmentOf}
-use Rattle.entries.specs.Stored.{chunksFor}
-use Rattle.entries.specs.Live.{live}
+use Rattle.entries.specs.Stored.{chunksFor, ValueFits}
+use Rattle.entries.specs.Live.{fullSlots, live}
 use Rattle.entries.proofs.LiveLists.{IsLive, live-in}
-use Rattle.chunks.specs.Chunks.{clear}
+use Rattle.entries.proofs.Hashes.{segment-lt}
+use Rattle.chunks.specs.Chunks.{clear, MarksFit}
 use Rattle.sound.specs.Sound.{SoundImage}
 use Rattle.sound.proofs.Sound.{sound-but}
+use Rattle.sound.proofs.Empty.{none-clear}
 use Rattle.removal.specs.Removal.{removeEntry}
-use Rattle.removal.proofs.Removing.{removal-chain, removal-mark-in, removal-full}
+use Rattle.removal.proofs.Removing.{removal-sound, removal-chain, removal-mark-in, removal-full}
 use Rattle.placement.specs.declared.Run.{Run}
 use Rattle.placement.specs.declared.Run.the-variants.{At, Nowhere}
-use Rattle.placement.specs.Runs.{runFor, fullIn}
-use Rattle.placement.proofs.Running.{Takes}
-use Rattle.placement.proofs.Taking.{first-taken, some-empty-few}
+use Rattle.placement.specs.Runs.{firstRun, runFor, fullIn}
+use Rattle.placement.proofs.Running.{Takes, run-found}
+use Rattle.placement.proofs.Taking.{first-taken, first-within, some-empty-few}
 use Rattle.edit.specs.Edits.{find, without, runOf, nowhereToGo, noRoom}
 use Rattle.edit.proofs.Finding.{find-live, live-segment}
 use Rattle.edit.proofs.Without.{without-found, without-head}
@@ -70,19 +72,22 @@ module _ (z : Shape) (img : List ℕ) (sound : SoundImage z img) (key value : Li
       }
 
   -- and it is a tier of the key's chain
-  own-chain : List·Memᴰ (e .tier) (chain z (removeEntry z img e) (segmentOf (z .settings) key))
-  own-chain =
-      let segment-is : e .segment ≡ segmentOf (z .settings) key =
-      sym (live-segment z img sound e found) ∙ ap (segmentOf (z .settings)) (find-live z img key e f .1) in
-      subst (λ (s : ℕ). List·Memᴰ (e .tier) (chain z (removeEntry z img e) s)) segment-is
-      (subst (List·Memᴰ (e .tier)) (sym (removal-chain z img (sound-but z img sound) e m (e .segment) (found .segmentIn))) (found .tierIn))
+  pub segment-is : e .segment ≡ segmentOf (z .settings) key
+  segment-is = sym (live-segment z img sound e found) ∙ ap (segmentOf (z .settings)) (find-live z img key e f .1)
 
-  some-run : n ≤ e .chunks → runOf z (without z img key) key value ≢ Nowhere
+  own-in : List·Memᴰ (e .tier) (chain z (removeEntry z img e) (e .segment))
+  own-in = subst (List·Memᴰ (e .tier)) (sym (removal-chain z img (sound-but z img sound) e m (e .segment) (found .segmentIn))) (found .tierIn)
+
+  own-chain : List·Memᴰ (e .tier) (chain z (removeEntry z img e) (segmentOf (z .settings) key))
+  own-chain = subst (λ (s : ℕ). List·Memᴰ (e .tier) (chain z (removeEntry z img e) s)) segment-is own-in
+
+  run-without : runOf z (without z img key) key value ≡ runOf z (removeEntry z img e) key value
+  run-without = ap (λ (x : List ℕ). runOf z x key value) (without-found z img sound key e f)
+
+  run-by : (c : ℕ) → Takes z (fullIn z (removeEntry z img e)) (clear z (removeEntry z img e)) (e .tier) c n
+      → runOf z (without z img key) key value ≢ Nowhere
   unfolding runOf runFor
-  some-run h q =
-      let none-there : runOf z (removeEntry z img e) key value ≡ Nowhere =
-      subst (λ (x : List ℕ). runOf z x key value ≡ Nowhere) (without-found z img sound key e f) q in
-      first-taken z _ _ n (e .tier) (e .chunk) (own-takes h) _ own-chain none-there
+  run-by c takes q = first-taken z _ _ n (e .tier) c takes _ own-chain (sym run-without ∙ q)
 
   room-by : (r : Run) → r ≢ Nowhere → nowhereToGo z (without z img key) r ≡ false
   room-by (At t c) ne = refl
@@ -90,4 +95,39 @@ module _ (z : Shape) (img : List ℕ) (sound : SoundImage z img) (key value : Li
 
   pub replacement-room : chunksFor (z .settings) (length key) (length value) ≤ e .chunks → noRoom z img key value ≡ false
   unfolding noRoom
-  replacement-room h = room-by _ (some-run h)
+  replacement-room h = room-by _ (run-by (e .chunk) (own-takes h))
+
+  -- ---- where the old entry was alone in its tier, that tier is clear and takes any entry
+
+  module _ (none : length (fullSlots z (removeEntry z img e) (e .tier)) ≡ 0) (fits : ValueFits (z .settings) (length key) (length value)) where
+    marks : MarksFit z (removeEntry z img e) (e .segment) (e .tier)
+    marks = removal-sound z img (sound-but z img sound) e m .fits .chunks .marks (e .segment) (found .segmentIn) (e .tier) own-in
+
+    clear-takes : Takes z (fullIn z (removeEntry z img e)) (clear z (removeEntry z img e)) (e .tier) 0 n
+    clear-takes =
+        record {
+          roomy = omega (arith, none, sound .fits .valid .slots);
+          ends = omega (arith, fits .notTooMany, sound .fits .valid .mostChunks);
+          clear = λ i a b.
+              eq-eqb _ 0
+              (none-clear z (removeEntry z img e) (e .tier) none (e .segment) marks i (omega (arith, fits .notTooMany, sound .fits .valid .mostChunks)));
+        }
+
+    pub emptied-run : runOf z (without z img key) key value ≢ Nowhere
+    emptied-run = run-by 0 clear-takes
+
+    pub emptied-room : noRoom z img key value ≡ false
+    unfolding noRoom
+    emptied-room = room-by _ emptied-run
+
+    -- an earlier tier takes it, or this one: never a later one
+    pub emptied-within : (xs ys : List ℕ) → chain z img (segmentOf (z .settings) key) ≡ xs ++ (e .tier ∷ ys) → (u c : ℕ)
+        → runOf z (without z img key) key value ≡ At u c → List·Memᴰ u (xs ++ (e .tier ∷ []))
+    unfolding runOf runFor
+    emptied-within xs ys is u c q =
+        let hs : segmentOf (z .settings) key < z .settings .segments = segment-lt (sound .fits .valid) key in
+        let there : chain z (removeEntry z img e) (segmentOf (z .settings) key) ≡ xs ++ (e .tier ∷ ys) =
+        removal-chain z img (sound-but z img sound) e m (segmentOf (z .settings) key) hs ∙ is in
+        let found-in : firstRun z (fullIn z (removeEntry z img e)) (clear z (removeEntry z img e)) (xs ++ (e .tier ∷ ys)) n ≡ At u c =
+        rw there at (sym run-without ∙ q) in
+        run-found z _ _ (xs ++ (e .tier ∷ [])) n u c (sym (first-within z _ _ n (e .tier) 0 clear-takes xs ys) ∙ found-in) .0

@@ -1,7 +1,7 @@
 -- What the code of a store knows at each step, by the scan's answer.
 use Prim.Native.Nat.{ℕ, _<_}
 use mathlib.Core.List.{List}
-use mathlib.Core.Path.{_≡_, refl, ap₂, sym, _∙_}
+use mathlib.Core.Path.{_≡_, refl, ap₂, sym, _∙_, subst₂}
 use mathlib.Core.Logic.{_≢_}
 use mathlib.Core.Bool.{true, false}
 use native.Mathlib.Omega.{arith}
@@ -32,12 +32,15 @@ use Rattle.placement.proofs.Before.{Places, is-tier, can-place}
 use Rattle.joining.specs.Joining.{join}
 use Rattle.joining.proofs.Ends.{new-tier, used-small}
 use Rattle.edit.specs.declared.Policy.the-variants.{Tight}
+use Rattle.unlinking.specs.Unlinking.{unlinkEmpty}
+use Rattle.unlinking.specs.Asking.{CanUnlinkEmpty}
 use Rattle.edit.specs.Edits.{find, without, left, runOf, noRoom, placeIn, tierOf, onTheSpot, entryIn, storedEntry, storeImage}
-use Rattle.edit.specs.Replaced.{oldOf, withoutOld, replacedOld, extendedOld, Stores, Storable, Walks, Replaces, Extends}
+use Rattle.edit.specs.Replaced.{oldOf, withoutOld, placedOld, replacedOld, extendedOld, Stores, Storable, Walks, Replaces, Extends}
 use Rattle.edit.proofs.Without.{without-sound, without-room, without-head}
 use Rattle.edit.proofs.Replacing.{sound-framed, sound-tiers, sound-lows, found-old, old-fits, withoutOld-is, old-tier}
 use Rattle.edit.proofs.Scanning.{scan-is}
-use Rattle.edit.proofs.Storing.{fits-at, fits-free}
+use Rattle.edit.proofs.Storing.{placedImage, fits-at, fits-free, placed-leaves}
+use Rattle.edit.proofs.Staying.{free-stays}
 use Rattle.layout.specs.Frame.{mostTiers}
 
 -- what the walk along the key's chain asks for
@@ -125,22 +128,31 @@ module _ {z : Shape} {img key value : List ℕ} {n : ℕ} {p : EntryPlace} (w : 
         let there : (j ≡ firstEmpty z img key t) × (t ≢ old .tier) = w .placeIs .slotIs t c j f e in
         there .0 ∙ sym (without-room z img sound key t (is-tier fits) (λ q. there .1 (q ∙ sym (old-tier z img sound key old old-of))))
 
+    -- the counters have followed
+    placed-at : placedOld z img old t c key value ≡ placedImage z img key value
+    unfolding placedOld placeIn
+    placed-at =
+        ap₂ (λ (x : List ℕ) (u : ℕ). settle z (placeAt z x t c key value) (touched t u)) old-is (old-tier z img sound key old old-of)
+        ∙ rw (← run-is, f)
+
+    some-room : noRoom z img key value ≡ false
+    unfolding noRoom
+    some-room = rw (← run-is, f)
+
     pub run-replaces : Replaces z img old t c (p .slot) key value
     run-replaces =
         record {
           framed = sound-framed z img sound;
           oldFits = old-fits z img sound key old old-of;
           places = rw old-is (can-place fits slot-known);
+          leaves =
+              subst₂ (CanUnlinkEmpty z) (sym placed-at) (sym (old-tier z img sound key old old-of))
+              (placed-leaves z img key value (w .storable) (w .keyBytes) (w .valueBytes) some-room);
         }
 
     pub run-stored : {y : List ℕ} → y ≡ replacedOld z img old t c key value → Stores Tight z img key value true y
-    unfolding noRoom storeImage storedEntry entryIn onTheSpot placeIn replacedOld
-    run-stored ey = (
-      rw (← run-is, f),
-      ey
-          ∙ ap₂ (λ (x : List ℕ) (u : ℕ). settle z (placeAt z x t c key value) (touched t u)) old-is (old-tier z img sound key old old-of)
-          ∙ rw (← run-is, f),
-    )
+    unfolding storeImage storedEntry entryIn onTheSpot replacedOld
+    run-stored ey = (some-room, ey ∙ ap₂ (unlinkEmpty z) placed-at (old-tier z img sound key old old-of))
 
   -- ---- the first free tier takes it
 
@@ -173,13 +185,24 @@ module _ {z : Shape} {img key value : List ℕ} {n : ℕ} {p : EntryPlace} (w : 
           });
         }
 
+    free-room : noRoom z img key value ≡ false
+    unfolding noRoom
+    free-room = rw (← run-is, f) (ne-eqb (freeHead z img₁) 0 some-free)
+
+    joined-at : extendedOld z img old s head key value
+        ≡ settle z (placeAt z (join z img₁ (segmentOf settings key)) (freeHead z img₁) 0 key value)
+        (touched (freeHead z img₁) (tierOf (find z img key)))
+    unfolding extendedOld
+    joined-at =
+        ap₂ (λ (x : List ℕ) (u : ℕ). settle z (placeAt z (join z x s) head 0 key value) (touched head u)) old-is (old-tier z img sound key old old-of)
+        ∙ ap₂ (λ (q t : ℕ). settle z (placeAt z (join z img₁ q) t 0 key value) (touched t (tierOf (find z img key)))) es head-is
+
     pub free-stored : {y : List ℕ} → y ≡ extendedOld z img old s head key value → Stores Tight z img key value true y
-    unfolding noRoom storeImage storedEntry entryIn onTheSpot placeIn extendedOld
+    unfolding storeImage storedEntry entryIn onTheSpot placeIn
     free-stored ey = (
-      rw (← run-is, f) (ne-eqb (freeHead z img₁) 0 some-free),
+      free-room,
       ey
-          ∙ ap₂ (λ (x : List ℕ) (u : ℕ). settle z (placeAt z (join z x s) head 0 key value) (touched head u)) old-is
-          (old-tier z img sound key old old-of)
-          ∙ ap₂ (λ (q t : ℕ). settle z (placeAt z (join z img₁ q) t 0 key value) (touched t (tierOf (find z img key)))) (es) head-is
+          ∙ joined-at
+          ∙ sym (free-stays z img key value (w .storable) (w .keyBytes) (w .valueBytes) (sym run-is ∙ f) some-free free-room)
           ∙ rw (← run-is, f),
     )

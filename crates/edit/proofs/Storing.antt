@@ -16,33 +16,41 @@ use Rattle.words.specs.Bytes.{Bytes, same}
 use Rattle.settings.specs.declared.Settings.{Settings}
 use Rattle.layout.specs.declared.Shape.{Shape}
 use Rattle.layout.specs.Tiers.{IsTier}
-use Rattle.chains.specs.Chains.{chain, freeHead}
+use Rattle.chains.specs.Chains.{chain, freeHead, freeChain}
 use Rattle.chains.proofs.Chained.{IsChained}
 use Rattle.entries.specs.declared.Live.{Live}
 use Rattle.entries.specs.Keys.{segmentOf}
 use Rattle.entries.specs.Stored.{chunksFor}
+use Rattle.entries.specs.Live.{fullSlots}
 use Rattle.entries.proofs.Hashes.{segment-lt}
 use Rattle.chunks.specs.Chunks.{clear}
 use Rattle.entries.specs.Pairs.{Pair, pairsOf}
 use Rattle.sound.specs.Sound.{SoundImage, SoundBut}
-use Rattle.counters.specs.Recount.{touched}
+use Rattle.counters.specs.Recount.{settle, touched}
 use Rattle.sound.proofs.Sound.{but-more}
-use Rattle.sound.proofs.AgreeTier.{SameTier, SameCounters}
+use Rattle.sound.proofs.AgreeTier.{SameSlots, SameTier, SameCounters, same-full}
 use Rattle.counters.specs.LowMarks.{LowKept, LowMarks}
-use Rattle.counters.proofs.Recounting.{settle-sound, settle-pairs}
-use Rattle.counters.proofs.LowMarks.{low-same, low-then, low-only, settle-lows}
+use Rattle.counters.proofs.Recounting.{settle-sound, settle-pairs, settle-slots, settle-chain, settle-free, settle-chained}
+use Rattle.counters.proofs.LowMarks.{low-same, low-then, low-only, chained-tier, settle-lows, lows-then}
 use Rattle.placement.specs.declared.Run.{Run}
 use Rattle.placement.specs.declared.Run.the-variants.{At, Nowhere}
 use Rattle.placement.specs.Runs.{runFor, fullIn}
 use Rattle.placement.specs.Placement.{placeAt}
 use Rattle.placement.proofs.Running.{run-found}
-use Rattle.placement.proofs.Placing.{Places, place-only, place-sound, place-chain, place-pairs}
+use Rattle.placement.proofs.Placing.{Places, place-only, place-sound, place-chain, place-pairs, place-full}
 use Rattle.joining.specs.Joining.{join}
 use Rattle.joining.proofs.Joined.{join-sound, join-tiers, join-stays, join-in, join-pairs, join-empty, join-clear, join-absent}
-use Rattle.edit.specs.Edits.{find, without, runOf, nowhereToGo, noRoom, left, placeIn, tierFor, tierOf, tiersBy, entryIn, storedEntry}
+use Rattle.unlinking.specs.Asking.{CanUnlinkEmpty}
+use Rattle.unlinking.proofs.Leaving.{leaving-sound, leaving-pairs, leaving-tiers}
+use Rattle.edit.specs.Edits.{find, without, runOf, nowhereToGo, noRoom, left, placeIn, tierFor, takingTier, tierOf, tiersBy, entryIn, storedEntry}
 use Rattle.edit.specs.Replaced.{Storable}
-use Rattle.edit.proofs.Without.{without-sound, without-left, without-lows, without-pairs, without-absent}
+use Rattle.edit.proofs.Without.{left-tier, without-sound, without-left, without-lows, without-pairs, without-absent}
 use Rattle.edit.proofs.Replacing.{found-tier}
+
+-- a store that does not stay on the spot, once the counters have followed and before a tier goes
+abbrev pub placedImage : Shape → List ℕ → List ℕ → List ℕ → List ℕ
+placedImage z img key value =
+    settle z (placeIn z (without z img key) key value (runOf z (without z img key) key value)) (tiersBy z img key value none)
 
 -- ---- the tiers that a store changes
 
@@ -141,6 +149,8 @@ module _ (z : Shape) (img : List ℕ) (key value : List ℕ) (w : Storable z img
     chained : Every (t ∷ gone) (IsChained z img₂)
     lows : (u : ℕ) → IsTier z u → (List·Memᴰ u (t ∷ gone) → ⊥) → LowKept z img img₂ u
     pairs : (F : Pair → ℕ) → total (pairsOf z img₂) F ≡ total (pairsOf z img₁) F + F (record { key = key; value = value })
+    slots : (u : ℕ) → IsTier z u → u ≢ t → SameSlots z img₁ img₂ u
+    full : length (fullSlots z img₂ t) ≢ 0
 
   -- every tier that was chained is so still
   stays-chained : (img₂ : List ℕ) {but : List ℕ} (t c : ℕ) (p : Places z img₂ but s t c key value) → Every gone (IsChained z img₂)
@@ -163,6 +173,8 @@ module _ (z : Shape) (img : List ℕ) (key value : List ℕ) (w : Storable z img
         lows = λ u is out.
             low-then (without-lows z img sound key u is (λ k. out (List·Memᴰ·tail k))) (low-only (place-only p) is (λ q. out (List·Memᴰ·head q)));
         pairs = place-pairs p;
+        slots = λ u is ne. place-only p .others u is ne .slots;
+        full = place-full p;
       }
   placed Nowhere e h =
       let ne : freeHead z img₁ ≢ 0 = eqb-false _ 0 h in
@@ -182,6 +194,8 @@ module _ (z : Shape) (img : List ℕ) (key value : List ℕ) (w : Storable z img
             (low-then (low-same (joined .0) (joined .1)) (low-only (place-only p) is (λ q. out (List·Memᴰ·head q))));
         pairs = λ F. place-pairs p F
             ∙ ap (λ (k : ℕ). k + F (record { key = key; value = value })) (join-pairs z img₁ s hs sound₁ ne F);
+        slots = λ u is nt j h. place-only p .others u is nt .slots j h ∙ join-tiers z img₁ s hs sound₁ ne u is .0 .slots j h;
+        full = place-full p;
       }
 
   -- ---- the whole
@@ -194,22 +208,62 @@ module _ (z : Shape) (img : List ℕ) (key value : List ℕ) (w : Storable z img
     unfolding noRoom
     done = placed r refl some-room
 
-    changed : SoundBut z (placeIn z img₁ key value r) (touched (tierFor z img₁ r) (tierOf (find z img key)))
+    changed : SoundBut z (placeIn z img₁ key value r) (tiersBy z img key value none)
     changed = but-more z _ (touched-more (tierFor z img₁ r) (find z img key) (λ e f. found-tier z img sound key e f)) (done .soundBut)
 
-    in-chains : Every (touched (tierFor z img₁ r) (tierOf (find z img key))) (IsChained z (placeIn z img₁ key value r))
+    in-chains : Every (tiersBy z img key value none) (IsChained z (placeIn z img₁ key value r))
     in-chains u m = done .chained u (touched-in (tierFor z img₁ r) (find z img key) u m)
+
+    abbrev settled : List ℕ
+    settled = placedImage z img key value
+
+    -- the tier that takes the entry has one; the slots of all others are those of the image without the old entry
+    settle-keeps : (u : ℕ) → IsTier z u → SameSlots z (placeIn z img₁ key value r) settled u
+    settle-keeps u is = settle-slots z (tiersBy z img key value none) (placeIn z img₁ key value r) changed in-chains u is
+
+    pub placed-slots : (u : ℕ) → IsTier z u → u ≢ takingTier z img key value → SameSlots z (without z img key) (placedImage z img key value) u
+    placed-slots u is ne j h = settle-keeps u is j h ∙ done .slots u is ne j h
+
+    pub placed-full : length (fullSlots z (placedImage z img key value) (takingTier z img key value)) ≢ 0
+    placed-full e =
+        let t : ℕ = takingTier z img key value in
+        let is : IsTier z t = chained-tier z (done .soundBut) (done .chained t (List·Memᴰ·head refl)) in
+        done .full (sym (ap length (same-full z (placeIn z img₁ key value r) settled t (settle-keeps t is))) ∙ e)
+
+    -- the chains are those that placing leaves
+    pub placed-chain : (q : ℕ) → q < z .settings .segments
+        → chain z (placedImage z img key value) q ≡ chain z (placeIn z (without z img key) key value (runOf z (without z img key) key value)) q
+    placed-chain = settle-chain z (tiersBy z img key value none) (placeIn z img₁ key value r) changed in-chains
+
+    pub placed-free : freeChain z (placedImage z img key value)
+        ≡ freeChain z (placeIn z (without z img key) key value (runOf z (without z img key) key value))
+    placed-free = settle-free z (tiersBy z img key value none) (placeIn z img₁ key value r) changed in-chains
+
+    pub placed-leaves : CanUnlinkEmpty z (placedImage z img key value) (tierOf (find z img key))
+    placed-leaves =
+        record {
+          sound = settle-sound z _ (placeIn z img₁ key value r) changed in-chains;
+          chained = λ ne.
+              settle-chained z _ (placeIn z img₁ key value r) changed in-chains (tierOf (find z img key))
+              (done .chained (tierOf (find z img key)) (List·Memᴰ·tail (left-tier (find z img key) ne)));
+        }
 
     pub placed-sound : SoundImage z (storedEntry z img key value none)
     unfolding storedEntry entryIn
-    placed-sound = settle-sound z _ (placeIn z img₁ key value r) changed in-chains
+    placed-sound = leaving-sound z settled (tierOf (find z img key)) placed-leaves
 
     pub placed-lows : LowMarks z img (storedEntry z img key value none) (tiersBy z img key value none)
     unfolding storedEntry entryIn
     placed-lows =
-        settle-lows z _ (placeIn z img₁ key value r) changed in-chains
+        lows-then z
+        (settle-lows z _ (placeIn z img₁ key value r) changed in-chains
         (λ u is out.
-        done .lows u is (λ k. out (touched-more (tierFor z img₁ r) (find z img key) (λ e f. found-tier z img sound key e f) u k)))
+        done .lows u is (λ k. out (touched-more (tierFor z img₁ r) (find z img key) (λ e f. found-tier z img sound key e f) u k))))
+        (λ u m. chained-tier z changed (in-chains u m))
+        (λ u is.
+        let stays : SameTier z settled (storedEntry z img key value none) u × SameCounters z settled (storedEntry z img key value none) u =
+        leaving-tiers z settled (tierOf (find z img key)) placed-leaves u is in
+        low-same (stays .0) (stays .1))
 
     pub placed-pairs : (F : Pair → ℕ) → total (pairsOf z (storedEntry z img key value none)) F
         ≡ F (record { key = key; value = value }) + total (those (pairsOf z img) (λ p. not (same (p .key) key))) F
@@ -217,6 +271,7 @@ module _ (z : Shape) (img : List ℕ) (key value : List ℕ) (w : Storable z img
     placed-pairs F =
         omega (
           arith,
+          leaving-pairs z settled (tierOf (find z img key)) placed-leaves F,
           settle-pairs z _ (placeIn z img₁ key value r) changed in-chains F,
           done .pairs F,
           without-pairs z img sound key F,

@@ -27,11 +27,15 @@ use Rattle.entries.specs.Pairs.{Pair, pairOf, pairsOf}
 use Rattle.sound.specs.Sound.{SoundImage, SoundBut}
 use Rattle.sound.proofs.Sound.{sound-but}
 use Rattle.counters.specs.LowMarks.{LowKept, LowMarks}
-use Rattle.counters.proofs.Recounting.{settle-sound, settle-pairs}
-use Rattle.counters.proofs.LowMarks.{low-stays, low-only, settle-lows}
+use Rattle.counters.specs.Recount.{settle}
+use Rattle.counters.proofs.Recounting.{settle-sound, settle-pairs, settle-chained}
+use Rattle.counters.proofs.LowMarks.{low-same, low-stays, low-only, chained-tier, settle-lows, lows-then}
 use Rattle.sound.proofs.KeyCounts.{withKey, keys-once, pair-live, live-pair}
 use Rattle.removal.specs.Removal.{removeEntry}
 use Rattle.removal.proofs.Removing.{removal-only, removal-sound, removal-tier, removal-pairs, removal-head}
+use Rattle.unlinking.specs.Asking.{CanUnlinkEmpty}
+use Rattle.unlinking.proofs.Leaving.{leaving-sound, leaving-pairs, leaving-tiers}
+use Rattle.sound.proofs.AgreeTier.{SameTier, SameCounters}
 use Rattle.edit.specs.Edits.{find, withoutEntry, without, left, removedEntry, removeImage, removeTiers, tierOf}
 use Rattle.edit.proofs.Finding.{find-live, find-none}
 
@@ -54,6 +58,11 @@ others-own key F p e = rw (same-eq (p .key) key e, others)
 
 others-other : (key : List ℕ) (F : Pair → ℕ) (p : Pair) → p .key ≢ key → others key F p ≡ F p
 others-other key F p n = rw (same-false (p .key) key n, others)
+
+-- a tier that an entry leaves is one of those that it leaves
+pub left-tier : (o : Option Live) → tierOf o ≢ 0 → List·Memᴰ (tierOf o) (left o)
+left-tier none ne = absurd (ne refl)
+left-tier (some e) ne = List·Memᴰ·head refl
 
 module _ (z : Shape) (img : List ℕ) (sound : SoundImage z img) (key : List ℕ) where
   every : SoundBut z img []
@@ -167,16 +176,37 @@ module _ (z : Shape) (img : List ℕ) (sound : SoundImage z img) (key : List ℕ
       not-there (pairOf (without z img key) (liveAt z (without z img key) s u k))
       (live-pair z (without z img key) (liveAt z (without z img key) s u k) (in-live z (without z img key) s u k hs mu hk fk)) e
 
-  -- ---- after a removal the counters have followed
+  -- ---- after a removal the counters have followed, and the tier has gone home if it is empty
+
+  abbrev settled : List ℕ
+  settled = settle z (without z img key) (removeTiers z img key)
+
+  pub remove-leaves : CanUnlinkEmpty z (settle z (without z img key) (removeTiers z img key)) (tierOf (find z img key))
+  remove-leaves =
+      record {
+        sound = settle-sound z (removeTiers z img key) (without z img key) without-sound without-left;
+        chained = λ ne.
+            settle-chained z (removeTiers z img key) (without z img key) without-sound without-left (tierOf (find z img key))
+            (without-left (tierOf (find z img key)) (left-tier (find z img key) ne));
+      }
 
   pub remove-sound : SoundImage z (removeImage z img key)
   unfolding removeImage removedEntry without
-  remove-sound = settle-sound z (removeTiers z img key) (without z img key) without-sound without-left
+  remove-sound = leaving-sound z settled (tierOf (find z img key)) remove-leaves
 
   pub remove-lows : LowMarks z img (removeImage z img key) (removeTiers z img key)
   unfolding removeImage removedEntry without
-  remove-lows = settle-lows z (removeTiers z img key) (without z img key) without-sound without-left without-lows
+  remove-lows =
+      lows-then z (settle-lows z (removeTiers z img key) (without z img key) without-sound without-left without-lows)
+      (λ u m. chained-tier z without-sound (without-left u m))
+      (λ u is.
+      let stays : SameTier z settled (removeImage z img key) u × SameCounters z settled (removeImage z img key) u =
+      leaving-tiers z settled (tierOf (find z img key)) remove-leaves u is in
+      low-same (stays .0) (stays .1))
 
   pub remove-pairs : (F : Pair → ℕ) → total (pairsOf z (removeImage z img key)) F ≡ total (those (pairsOf z img) (λ p. not (same (p .key) key))) F
   unfolding removeImage removedEntry without
-  remove-pairs F = settle-pairs z (removeTiers z img key) (without z img key) without-sound without-left F ∙ without-pairs F
+  remove-pairs F =
+      leaving-pairs z settled (tierOf (find z img key)) remove-leaves F
+      ∙ settle-pairs z (removeTiers z img key) (without z img key) without-sound without-left F
+      ∙ without-pairs F

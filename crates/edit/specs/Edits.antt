@@ -20,6 +20,7 @@ use Rattle.placement.specs.declared.Run.the-variants.{At, Nowhere}
 use Rattle.placement.specs.Runs.{runFor}
 use Rattle.placement.specs.Placement.{writeEntry, placeAt}
 use Rattle.joining.specs.Joining.{join}
+use Rattle.unlinking.specs.Unlinking.{unlinkEmpty}
 use Rattle.edit.specs.declared.Policy.{Policy}
 use Rattle.edit.specs.declared.Policy.the-variants.{OnTheSpot, Tight}
 
@@ -46,9 +47,14 @@ left (some e) = e .tier ∷ []
 abbrev pub removeTiers : Shape → List ℕ → List ℕ → List ℕ
 removeTiers z img key = left (find z img key)
 
--- the image after a removal: the counters of those tiers follow
+-- the tier that an entry leaves (0 where there is none)
+abbrev pub tierOf : Option Live → ℕ
+tierOf none = 0
+tierOf (some e) = e .tier
+
+-- the image after a removal: the counters of those tiers follow, and an extra tier that is empty now goes home
 unfoldable pub removedEntry : Shape → List ℕ → Option Live → List ℕ
-removedEntry z img o = settle z (withoutEntry z img o) (left o)
+removedEntry z img o = unlinkEmpty z (settle z (withoutEntry z img o) (left o)) (tierOf o)
 
 unfoldable pub removeImage : Shape → List ℕ → List ℕ → List ℕ
 removeImage z img key = removedEntry z img (find z img key)
@@ -72,14 +78,13 @@ unfoldable pub placeIn : Shape → List ℕ → List ℕ → List ℕ → Run �
 placeIn z img key value (At t c) = placeAt z img t c key value
 placeIn z img key value Nowhere = placeAt z (join z img (segmentOf (z .settings) key)) (freeHead z img) 0 key value
 
--- the tier that takes it, and the tier that an entry leaves (0 where there is none)
+-- the tier that takes it
 abbrev pub tierFor : Shape → List ℕ → Run → ℕ
 tierFor z img (At t c) = t
 tierFor z img Nowhere = freeHead z img
 
-abbrev pub tierOf : Option Live → ℕ
-tierOf none = 0
-tierOf (some e) = e .tier
+abbrev pub takingTier : Shape → List ℕ → List ℕ → List ℕ → ℕ
+takingTier z img key value = tierFor z (without z img key) (runOf z (without z img key) key value)
 
 -- the old entry, where the new one, of n chunks, takes its place: the policy allows it, and it has as many chunks
 unfoldable pub onTheSpot : Policy → ℕ → Option Live → Option Live
@@ -93,7 +98,7 @@ spotOf policy z img key value = onTheSpot policy (chunksFor (z .settings) (lengt
 -- the tiers in which a store takes or frees chunks: none on the spot
 abbrev pub tiersBy : Shape → List ℕ → List ℕ → List ℕ → Option Live → List ℕ
 tiersBy z img key value (some e) = []
-tiersBy z img key value none = touched (tierFor z (without z img key) (runOf z (without z img key) key value)) (tierOf (find z img key))
+tiersBy z img key value none = touched (takingTier z img key value) (tierOf (find z img key))
 
 abbrev pub storeTiers : Policy → Shape → List ℕ → List ℕ → List ℕ → List ℕ
 storeTiers policy z img key value = tiersBy z img key value (spotOf policy z img key value)
@@ -103,9 +108,14 @@ unfoldable pub entryIn : Shape → List ℕ → List ℕ → List ℕ → Option
 entryIn z img key value (some e) = writeEntry z img (e .tier) (e .chunk) key value
 entryIn z img key value none = placeIn z (without z img key) key value (runOf z (without z img key) key value)
 
--- the image after a store: the counters of those tiers follow
+-- the tier that the old entry leaves: none on the spot
+abbrev pub tierLeft : Shape → List ℕ → List ℕ → Option Live → ℕ
+tierLeft z img key (some e) = 0
+tierLeft z img key none = tierOf (find z img key)
+
+-- the image after a store: the counters of those tiers follow, and an extra tier that is empty now goes home. The place was sought before
 unfoldable pub storedEntry : Shape → List ℕ → List ℕ → List ℕ → Option Live → List ℕ
-storedEntry z img key value o = settle z (entryIn z img key value o) (tiersBy z img key value o)
+storedEntry z img key value o = unlinkEmpty z (settle z (entryIn z img key value o) (tiersBy z img key value o)) (tierLeft z img key o)
 
 unfoldable pub storeImage : Policy → Shape → List ℕ → List ℕ → List ℕ → List ℕ
 storeImage policy z img key value = storedEntry z img key value (spotOf policy z img key value)

@@ -26,6 +26,8 @@ use Rattle.placement.specs.Walking.{Walked}
 use Rattle.placement.specs.Placement.{placeAt}
 use Rattle.joining.specs.Joining.{join}
 use Rattle.joining.specs.Asking.{CanJoin}
+use Rattle.unlinking.specs.Unlinking.{unlinkEmpty}
+use Rattle.unlinking.specs.Asking.{CanUnlinkEmpty}
 use Rattle.edit.specs.declared.Policy.{Policy}
 use Rattle.edit.specs.declared.Policy.the-variants.{OnTheSpot, Tight}
 use Rattle.edit.specs.Edits.{noRoom, storeImage}
@@ -38,11 +40,14 @@ oldOf (some e) = record { tier = e .tier; slot = e .slot; chunk = e .chunk; chun
 unfoldable pub withoutOld : Shape → List ℕ → Old → List ℕ
 withoutOld z img old = elim (eqb (old .tier) 0) [ true ↦ img | false ↦ removeAt z img (old .tier) (old .slot) (old .chunk) (old .chunks) ]
 
--- after a store in tier t, from chunk c on
-unfoldable pub replacedOld : Shape → List ℕ → Old → ℕ → ℕ → List ℕ → List ℕ → List ℕ
-replacedOld z img old t c key value = settle z (placeAt z (withoutOld z img old) t c key value) (touched t (old .tier))
+-- after a store in tier t, from chunk c on; and with the tier that the entry left gone home, if it is empty now
+unfoldable pub placedOld : Shape → List ℕ → Old → ℕ → ℕ → List ℕ → List ℕ → List ℕ
+placedOld z img old t c key value = settle z (placeAt z (withoutOld z img old) t c key value) (touched t (old .tier))
 
--- the same where the first free tier joins segment s's chain and takes it
+unfoldable pub replacedOld : Shape → List ℕ → Old → ℕ → ℕ → List ℕ → List ℕ → List ℕ
+replacedOld z img old t c key value = unlinkEmpty z (placedOld z img old t c key value) (old .tier)
+
+-- where the first free tier joins segment s's chain and takes it; the tier that the entry left has another one
 unfoldable pub extendedOld : Shape → List ℕ → Old → ℕ → ℕ → List ℕ → List ℕ → List ℕ
 extendedOld z img old s t key value = settle z (placeAt z (join z (withoutOld z img old) s) t 0 key value) (touched t (old .tier))
 
@@ -83,6 +88,7 @@ pub record Replaces (z : Shape) (img : List ℕ) (old : Old) (t c : ℕ) (slot :
   pub framed : Framed z (length img)
   pub oldFits : OldFits z old
   pub places : CanPlace z (withoutOld z img old) t c slot key value
+  pub leaves : CanUnlinkEmpty z (placedOld z img old t c key value) (old .tier)
 
 pub record Extends (z : Shape) (img : List ℕ) (old : Old) (s t : ℕ) (key value : List ℕ) : Type 0 where
   pub framed : Framed z (length img)

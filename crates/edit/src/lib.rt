@@ -53,10 +53,12 @@ pub fn remove(z: Shape, img: &mut [u8], key: &[u8]) -> bool
     }
     remove_old(z, img, old);
     counters::recount(z, img, old.tier);
+    unlinking::unlink_empty(z, img, old.tier);
     true
 }
 
-// The new entry goes to tier t, in the chunks from c on. The counters follow when all else is written.
+// The new entry goes to tier t, in the chunks from c on. The counters follow when all else is written; then the old tier goes home, if
+// it is empty now.
 fn replace(
     z: Shape,
     img: &mut [u8],
@@ -73,9 +75,10 @@ fn replace(
     remove_old(z, img, old);
     placement::place::place_at(z, img, t, c, slot, key, value);
     counters::settle(z, img, t, old.tier);
+    unlinking::unlink_empty(z, img, old.tier);
 }
 
-// The same where the first free tier t joins segment s's chain.
+// The same where the first free tier t joins segment s's chain. The old tier has another entry: without one it would have taken this one.
 fn extend(z: Shape, img: &mut [u8], old: Old, s: usize, t: usize, key: &[u8], value: &[u8])
     requires { ⌜ Extends z (now img) old s t (now key) (now value) ⌝ }
     ensures { λ r. ⌜ now (img .exit) ≡ extendedOld z (now (img .entry)) old s t (now (key .entry)) (now (value .entry)) ⌝ }

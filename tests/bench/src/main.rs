@@ -3,7 +3,7 @@ mod store;
 
 use std::hint::black_box;
 use std::time::Instant;
-use store::{store, Plan, Store};
+use store::{store, with_a_second_tier, Plan, Store};
 
 /// The best time of a round of each side, in seconds for one call.
 fn both(rounds: usize, calls: usize, mut ours: impl FnMut(usize), mut theirs: impl FnMut(usize)) -> (f64, f64) {
@@ -74,6 +74,11 @@ fn ok(answer: Result<(), chronicle_map::Refusal>) -> u32 {
     answer.map_or_else(|e| e.number(), |()| 0)
 }
 
+/// The number of a removal.
+fn gone(answer: Result<bool, chronicle_map::Refusal>) -> u32 {
+    answer.map_or_else(|e| e.number(), |there| !there as u32)
+}
+
 /// The time of one edit, which must answer 0.
 fn once(best: &mut f64, edit: impl FnOnce() -> u32) {
     let t = Instant::now();
@@ -86,7 +91,6 @@ fn once(best: &mut f64, edit: impl FnOnce() -> u32) {
 fn edits(s: &Store, size: &str) {
     let (b, k) = (&s.block, &s.keys);
     let (mut mine, mut other) = (s.image.clone(), s.image.clone());
-    let gone = |r: Result<bool, chronicle_map::Refusal>| r.map_or_else(|e| e.number(), |there| !there as u32);
     let (record, another) = ([1, 2, 3, 4], [5, 6, 7, 8]);
     let [mut stores, mut removes, mut replaces, mut tight, mut appends] = [(f64::MAX, f64::MAX); 5];
     for i in 0..rounds(s.image.len()) {
@@ -110,6 +114,21 @@ fn edits(s: &Store, size: &str) {
     row("store, replaced on the spot", size, replaces);
     row("store_tight, replaced", size, tight);
     row("store, new key", size, appends);
+}
+
+/// A removal that empties the last tier of a chain, so that it goes home. Each side has an image of its own, the same one anew in each round.
+fn homes(s: &Store, plan: Plan, size: &str) {
+    let (chained, key) = with_a_second_tier(s, plan);
+    let (mut mine, mut other) = (chained.clone(), chained.clone());
+    let mut homes = (f64::MAX, f64::MAX);
+    for _ in 0..rounds(chained.len()) {
+        mine.copy_from_slice(&chained);
+        once(&mut homes.0, || gone(chronicle_map::remove(&s.block, &mut mine, &key)));
+        other.copy_from_slice(&chained);
+        once(&mut homes.1, || reference::remove(&s.block, &mut other, &key));
+        assert!(mine == other && mine[11..16] != [0; 5], "the tier is the first free one");
+    }
+    row("remove, tier goes home", size, homes);
 }
 
 /// One bulk more. Each side has an image of its own with room for it, the same one anew in each round.
@@ -167,6 +186,7 @@ fn main() {
         assert!(chronicle_map::check(&s.block, &s.image).is_ok());
         reads(&s, size);
         edits(&s, size);
+        homes(&s, plan, size);
         grows(&s, size);
     }
     growth();

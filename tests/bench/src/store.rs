@@ -49,42 +49,72 @@ pub fn store(p: Plan) -> Store {
     for g in 0..p.segments {
         put(&mut s.image, mains + g * tier + p.slots * SLOT + 24, 4, g as u64);
     }
-    fill(&mut s, p, mains, tier, list);
+    fill(&mut s, p, mains, tier);
     s
 }
 
-fn fill(s: &mut Store, p: Plan, mains: usize, tier: usize, list: usize) {
+/// Segment and lookup key of a key.
+fn parts(p: Plan, key: &[u8]) -> (usize, u64) {
+    let hash = reference::xxh64(key);
+    let lookup = match (hash >> p.segments.ilog2()) & ((1 << KEY_BITS) - 1) {
+        0 => (1 << KEY_BITS) - 1,
+        part => part,
+    };
+    (hash as usize % p.segments, lookup)
+}
+
+/// An entry in some chunk of the tier that begins at `base`: its slot, its bit and its bytes.
+fn place(image: &mut [u8], p: Plan, base: usize, chunk: usize, key: &[u8]) {
+    let lookup = parts(p, key).1;
+    let mut j = lookup as usize % p.slots;
+    while image[base + j * SLOT..base + (j + 1) * SLOT] != [0; SLOT] {
+        j = (j + 1) % p.slots;
+    }
+    put(image, base + j * SLOT, SLOT, lookup | (chunk as u64) << KEY_BITS);
+    let list = base + p.slots * SLOT + 64;
+    image[list + chunk / 8] |= 1 << (chunk % 8);
+    let entry = [&[8][..], key, &[4], &RECORD].concat();
+    let at = list + p.chunks.div_ceil(64) * 8 + chunk * p.chunk_size;
+    image[at..at + entry.len()].copy_from_slice(&entry);
+}
+
+/// The n-th of many keys of 8 bytes.
+fn key(n: u64) -> [u8; 8] {
+    n.wrapping_mul(0x9E37_79B9_7F4A_7C15).to_le_bytes()
+}
+
+fn fill(s: &mut Store, p: Plan, mains: usize, tier: usize) {
     let mut counts = vec![0usize; p.segments];
     let mut x = 0u64;
     while s.keys.len() < p.segments * p.entries {
         x += 1;
-        let key = x.wrapping_mul(0x9E37_79B9_7F4A_7C15).to_le_bytes();
-        let hash = reference::xxh64(&key);
-        let segment = hash as usize % p.segments;
+        let key = key(x);
+        let segment = parts(p, &key).0;
         if counts[segment] == p.entries {
             continue;
         }
-        let lookup = match (hash >> p.segments.ilog2()) & ((1 << KEY_BITS) - 1) {
-            0 => (1 << KEY_BITS) - 1,
-            part => part,
-        };
-        let base = mains + segment * tier;
-        let mut j = lookup as usize % p.slots;
-        while s.image[base + j * SLOT..base + (j + 1) * SLOT] != [0; SLOT] {
-            j = (j + 1) % p.slots;
-        }
-        let chunk = counts[segment];
-        put(&mut s.image, base + j * SLOT, SLOT, lookup | (chunk as u64) << KEY_BITS);
-        let counters = base + p.slots * SLOT;
-        s.image[counters + 64 + chunk / 8] |= 1 << (chunk % 8);
-        let at = counters + 64 + list + chunk * p.chunk_size;
-        s.image[at] = 8;
-        s.image[at + 1..at + 9].copy_from_slice(&key);
-        s.image[at + 9] = 4;
-        s.image[at + 10..at + 14].copy_from_slice(&RECORD);
+        place(&mut s.image, p, mains + segment * tier, counts[segment], &key);
         counts[segment] += 1;
         put(&mut s.image, 64 + segment * HEADER + 8, 4, counts[segment] as u64);
         put(&mut s.image, 64 + segment * HEADER + 12, 4, counts[segment] as u64);
         s.keys.push(key.to_vec());
     }
+}
+
+/// The same store with its extra tier in a segment's chain, and a new key, the only one in that tier.
+pub fn with_a_second_tier(s: &Store, p: Plan) -> (Vec<u8>, [u8; 8]) {
+    let key = key(u64::MAX);
+    let (segment, _) = parts(p, &key);
+    let (extra, base) = (p.segments as u64 + 1, s.image.len() - s.bulk);
+    let mut image = s.image.clone();
+    put(&mut image, 11, 5, 0);
+    put(&mut image, 16, 5, 1);
+    put(&mut image, 64 + segment * HEADER + 16, 8, extra);
+    place(&mut image, p, base, 0, &key);
+    let counters = base + p.slots * SLOT;
+    // Previous, lowest free chunk, segment, order and entry count.
+    for (at, width, number) in [(8, 8, segment + 1), (16, 8, 1), (24, 4, segment), (28, 4, 1), (32, 4, 1)] {
+        put(&mut image, counters + at, width, number as u64);
+    }
+    (image, key)
 }

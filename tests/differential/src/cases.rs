@@ -1,16 +1,18 @@
 //! One case: an image of one kind, and calls on it.
 
+mod limits;
+
 use crate::blocks;
-use crate::bulks::{self, Course};
+use crate::bulks::Course;
 use crate::calls::all_calls;
 use crate::compare::{self, Outcome, Pair};
 use crate::damage::{DAMAGES, Scene, Verdict};
 use crate::defects::DEFECTS;
 use crate::draw;
+use crate::empty_tiers::WentHome;
 use crate::history::History;
-use crate::kinds::Kind;
 use crate::model::Model;
-use crate::plan::{MOST_TIERS, Plan};
+use crate::plan::Plan;
 use crate::rng::Rng;
 use crate::settings::Size;
 use crate::tally::Tally;
@@ -23,8 +25,8 @@ pub fn run(rng: &mut Rng, tally: &mut Tally) -> Outcome<()> {
         800..900 => bad_block(rng, tally),
         900..970 => flipped(rng, tally),
         970..995 => raw(rng, tally),
-        995..998 => most_tiers(rng, tally),
-        _ => longest_image(rng, tally),
+        995..998 => limits::most_tiers(rng, tally),
+        _ => limits::longest_image(rng, tally),
     }
 }
 
@@ -60,7 +62,13 @@ fn scene_of(rng: &mut Rng, plan: Plan) -> (Plan, Vec<Vec<u8>>, Model) {
 }
 
 fn history(rng: &mut Rng, tally: &mut Tally) -> Outcome<()> {
-    let (plan, keys, model) = scene(rng);
+    let (plan, keys, model) = match rng.percent(15) {
+        true => {
+            let plan = Plan::random(rng, Size::Narrow);
+            scene_of(rng, plan)
+        }
+        false => scene(rng),
+    };
     let grows = *rng.pick(&[0, 2, 8]);
     history_on(rng, tally, plan, &keys, model, grows)
 }
@@ -85,6 +93,7 @@ fn history_on(
         tight,
         grows,
         course: Course::default(),
+        went_home: WentHome::default(),
         pair,
     }
     .run(steps)
@@ -208,62 +217,4 @@ fn raw(rng: &mut Rng, tally: &mut Tally) -> Outcome<()> {
     let keys = draw::keys(rng, &plan, 4);
     let mut pair = Pair::new(block, image, tally);
     all_calls(rng, &plan, &keys, &mut pair, Verdict::Unknown)
-}
-
-/// As many tiers as an image may have, 1,024 mostly, or a bulk less, with
-/// room for more; or a bulk too many.
-fn most_tiers(rng: &mut Rng, tally: &mut Tally) -> Outcome<()> {
-    let mut plan = Plan::random(rng, Size::Tiny);
-    plan.segments = 1 << rng.between(0, 8);
-    plan.bulk_tiers = match rng.percent(70) {
-        true => 1 << rng.between(0, 6.min(plan.segments.ilog2() as usize)),
-        false => rng.between(1, 64),
-    };
-    plan.bulk_size = plan.bulk_offset + plan.bulk_tiers * plan.tier_size;
-    plan.bulks = (MOST_TIERS - plan.segments) / plan.bulk_tiers;
-    plan.bytes_after = rng.below(3) * plan.bulk_size;
-    if plan.store_size() + plan.bytes_after > 1 << 20 {
-        return Ok(());
-    }
-    if rng.percent(70) {
-        plan.bulks -= rng.below(2);
-        let (plan, keys, model) = scene_of(rng, plan);
-        return history_on(rng, tally, plan, &keys, model, 30);
-    }
-    plan.bulks += 1;
-    let (plan, keys, model) = scene_of(rng, plan);
-    let image = model.image(rng);
-    let mut pair = Pair::new(plan.block(), image, tally);
-    all_calls(rng, &plan, &keys, &mut pair, Verdict::Is(4))
-}
-
-/// An image of the greatest length, or a byte more. One bulk more may end
-/// with it, or a byte behind it.
-fn longest_image(rng: &mut Rng, tally: &mut Tally) -> Outcome<()> {
-    const LONGEST: usize = 1 << 24;
-    let mut plan = Plan::random(rng, Size::Tiny);
-    let too_long = rng.percent(50);
-    if rng.percent(50) {
-        plan.bulks = 0;
-        plan.bulk_size = LONGEST - plan.store_size() + rng.below(2);
-    }
-    let (mut plan, _, model) = scene_of(rng, plan);
-    let mut image = model.image(rng);
-    image.resize(LONGEST + usize::from(too_long), 0xEE);
-    plan.bytes_after = image.len() - plan.store_size();
-    let kind = *rng.pick(&[Kind::OnTheSpot, Kind::Tight]);
-    let mut pair = Pair::new(plan.block(), image, tally);
-    let (number, _) = pair.check()?;
-    let expected = if too_long { 4 } else { 0 };
-    if number != expected {
-        return Err(format!(
-            "check of a long image: {number}, meant was {expected}"
-        ));
-    }
-    pair.store(kind, &[1], &[2])?;
-    match too_long {
-        true => pair.grow(),
-        false => bulks::add(&mut plan, &mut pair),
-    }
-    .map(|_| ())
 }

@@ -1,7 +1,9 @@
 //! Histories of calls on an accepted image, held against a plain map.
 
 mod bulks;
+mod kinds;
 mod pairs;
+mod removals;
 mod stores;
 
 use std::collections::BTreeMap;
@@ -9,8 +11,9 @@ use std::collections::BTreeMap;
 use crate::bulks::Course;
 use crate::compare::{Outcome, Pair};
 use crate::draw;
+use crate::edit::{Deed, Edit};
+use crate::empty_tiers::{Links, WentHome};
 use crate::live::{self, Live};
-use crate::low_marks::{Deed, Edit};
 use crate::plan::{Plan, length_size};
 use crate::rng::Rng;
 use crate::search_ends::Search;
@@ -26,6 +29,7 @@ pub struct History<'a, 'b> {
     /// How many calls of a hundred add a bulk.
     pub grows: usize,
     pub course: Course,
+    pub went_home: WentHome,
     pub pair: Pair<'b>,
 }
 
@@ -110,46 +114,27 @@ impl History<'_, '_> {
         Ok(())
     }
 
-    fn remove(&mut self) -> Outcome<()> {
-        let key = match self
-            .records
-            .keys()
-            .nth(self.rng.below(self.records.len() + 1))
-        {
-            Some(key) if self.rng.percent(70) => key.clone(),
-            _ => draw::offered_key(self.rng, &self.plan, self.keys),
-        };
-        let number = self.pair.remove(&key)?;
-        let refused = self.plan.offered_number(key.len(), None);
-        let absent = if self.records.remove(&key).is_some() {
-            0
-        } else {
-            1
-        };
-        self.expect(
-            "removal",
-            number,
-            if refused != 0 { refused } else { absent },
-        )?;
-        if number == 0 {
-            self.course.removed();
-            self.low_marks(&key, Deed::Removed)?;
-        }
-        Ok(())
-    }
-
-    /// What an edit made of the low marks.
-    fn low_marks(&mut self, key: &[u8], deed: Deed) -> Outcome<()> {
+    /// What an edit made of the low marks and the links.
+    fn edited(
+        &mut self,
+        key: &[u8],
+        deed: Deed,
+        events: impl Fn(&Links) -> Vec<String>,
+    ) -> Outcome<()> {
         let edit = Edit {
             plan: &self.plan,
             before: self.pair.before(),
             after: self.pair.image(),
+            key,
             segment: self.plan.parts(key).0,
             deed,
         };
-        for event in edit.marks()? {
-            self.pair.met(event);
-        }
+        let mut met = edit.marks()?;
+        let links = Links::of(&edit);
+        links.are_right()?;
+        met.extend(events(&links));
+        met.extend(self.went_home.follow(&links));
+        met.into_iter().for_each(|event| self.pair.met(event));
         Ok(())
     }
 

@@ -12,6 +12,23 @@ pub enum Kind {
     Tight,
 }
 
+/// The calls that store a record.
+#[derive(Clone, Copy)]
+pub enum Call {
+    Store(Kind),
+    SetDelay,
+}
+
+impl Call {
+    /// A set is a store of the default kind.
+    pub fn kind(self) -> Kind {
+        match self {
+            Call::Store(kind) => kind,
+            Call::SetDelay => Kind::OnTheSpot,
+        }
+    }
+}
+
 impl Kind {
     pub fn other(self) -> Kind {
         match self {

@@ -48,6 +48,14 @@ pub fn entries<'a>(plan: &Plan, image: &'a [u8]) -> Vec<Live<'a>> {
         .collect()
 }
 
+/// Keys and records, sorted.
+pub fn map<'a>(plan: &Plan, image: &'a [u8]) -> Vec<(&'a [u8], &'a [u8])> {
+    let entries = entries(plan, image).into_iter();
+    let mut map: Vec<_> = entries.map(|entry| (entry.key, entry.record)).collect();
+    map.sort();
+    map
+}
+
 /// The entry of a key.
 pub fn entry_of<'a>(plan: &Plan, image: &'a [u8], key: &[u8]) -> Option<Live<'a>> {
     let mut entries = entries_in(plan, image, plan.parts(key).0).into_iter();

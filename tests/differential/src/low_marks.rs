@@ -2,9 +2,7 @@
 //! chunk, and looked at after each edit, tier by tier.
 
 use crate::compare::Outcome;
-use crate::oracle::Oracle;
-use crate::plan::Plan;
-use crate::render::get;
+use crate::edit::{Deed, Edit};
 use crate::rng::Rng;
 
 /// What edits must have come upon, each in a main and in an extra tier.
@@ -39,54 +37,38 @@ pub fn drawn(rng: &mut Rng, lowest: usize, chunks: usize) -> usize {
     lowest
 }
 
-/// An edit that was answered 0.
-pub struct Edit<'a> {
-    pub plan: &'a Plan,
-    pub before: &'a [u8],
-    pub after: &'a [u8],
-    /// The segment of its key.
-    pub segment: usize,
-    pub deed: Deed,
-}
-
-#[derive(Clone, Copy, PartialEq)]
-pub enum Deed {
-    Removed,
-    /// The tier that a store has put its entry in.
-    Placed(usize),
-    /// The tier in which a record was replaced where it stood.
-    OnTheSpot(usize),
-}
-
 impl Edit<'_> {
     /// The exact number stands where chunks were taken or freed, the old one
     /// in every other tier. On the spot none is. Answers what came up.
     pub fn marks(&self) -> Outcome<Vec<String>> {
         let mut met = Vec::new();
+        let chain = self.chain();
         for tier in 1..=self.plan.tiers() {
             let touched = self.bits_changed(tier) || self.deed == Deed::Placed(tier);
             let expected = match touched {
-                true => self.lowest_clear(self.after, tier) as u64,
-                false => self.field(self.before, tier),
+                true => self.left().lowest_clear(tier) as u64,
+                false => self.got().low_mark(tier),
             };
-            let field = self.field(self.after, tier);
+            let field = self.left().low_mark(tier);
             if field != expected {
                 return Err(format!(
                     "low mark of tier {tier}: {field}, meant was {expected}"
                 ));
             }
-            met.extend(self.events(tier, touched));
+            if chain.contains(&tier) {
+                met.extend(self.events(tier, touched));
+            }
         }
         Ok(met)
     }
 
+    /// Of a tier in the chain of the edit's key.
     fn events(&self, tier: usize, touched: bool) -> Vec<String> {
-        let exact = self.lowest_clear(self.before, tier);
-        let chain = self.chain();
-        if !chain.contains(&tier) || self.field(self.before, tier) == exact as u64 {
+        let exact = self.got().lowest_clear(tier);
+        if self.got().low_mark(tier) == exact as u64 {
             return Vec::new();
         }
-        let exact_after = self.lowest_clear(self.after, tier);
+        let exact_after = self.left().lowest_clear(tier);
         let stores = matches!(self.deed, Deed::Placed(_));
         let stays = matches!(self.deed, Deed::OnTheSpot(_));
         let came = [
@@ -103,33 +85,9 @@ impl Edit<'_> {
         events.map(|(event, _)| named(kind, event)).collect()
     }
 
-    /// The chain of the key's segment before the edit.
-    fn chain(&self) -> Vec<usize> {
-        let oracle = Oracle {
-            plan: self.plan,
-            image: self.before,
-        };
-        oracle.chain(self.segment)
-    }
-
-    fn field(&self, image: &[u8], tier: usize) -> u64 {
-        let (at, width) = self.plan.lowest_free_field(tier);
-        get(image, at, width)
-    }
-
-    fn mark(&self, image: &[u8], tier: usize, chunk: usize) -> bool {
-        image[self.plan.list(tier) + chunk / 8] & (1 << (chunk % 8)) != 0
-    }
-
-    fn lowest_clear(&self, image: &[u8], tier: usize) -> usize {
-        let mut chunks = 0..self.plan.chunks;
-        let lowest = chunks.find(|&chunk| !self.mark(image, tier, chunk));
-        lowest.unwrap_or(self.plan.chunks)
-    }
-
     fn bits_changed(&self, tier: usize) -> bool {
+        let (before, after) = (self.got(), self.left());
         let mut chunks = 0..self.plan.chunks;
-        chunks
-            .any(|chunk| self.mark(self.before, tier, chunk) != self.mark(self.after, tier, chunk))
+        chunks.any(|chunk| before.mark(tier, chunk) != after.mark(tier, chunk))
     }
 }

@@ -12,6 +12,8 @@ mod compare;
 mod damage;
 mod defects;
 mod draw;
+mod edit;
+mod empty_tiers;
 mod history;
 mod kinds;
 mod lengths;

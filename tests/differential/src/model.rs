@@ -83,7 +83,23 @@ impl Model {
                 model.grow(segment);
             }
             if let Some(value) = draw::fitting_value(rng, plan, key.len()) {
-                model.put(rng, segment, key, value);
+                let tier = *rng.pick(&model.chains[segment]);
+                model.put(rng, tier, key, value);
+            }
+        }
+        model
+    }
+
+    /// Of one segment: almost all tiers in its chain, with a key in each while
+    /// keys last.
+    pub fn long_chain(rng: &mut Rng, plan: &Plan, keys: &[Vec<u8>]) -> Model {
+        let mut model = Model::empty(rng, plan);
+        for _ in rng.below(3)..model.free.len() {
+            model.grow(0);
+        }
+        for (key, tier) in keys.iter().zip(model.chains[0].clone()) {
+            if let Some(value) = draw::fitting_value(rng, plan, key.len()) {
+                model.put(rng, tier, key, value);
             }
         }
         model
@@ -95,8 +111,7 @@ impl Model {
         }
     }
 
-    fn put(&mut self, rng: &mut Rng, segment: usize, key: &[u8], value: Vec<u8>) {
-        let tier = *rng.pick(&self.chains[segment]);
+    fn put(&mut self, rng: &mut Rng, tier: usize, key: &[u8], value: Vec<u8>) {
         let draft = self.draft(key, &value);
         if self.place(rng, tier, draft, 1).is_some() {
             self.records.insert(key.to_vec(), value);

@@ -10,6 +10,8 @@ pub use later::store_after;
 use std::ops::Range;
 
 use crate::compare::{Outcome, difference};
+use crate::edit::{Deed, Edit};
+use crate::empty_tiers::Links;
 use crate::kinds::Kind;
 use crate::live::{self, Live};
 use crate::model::entry_bytes;
@@ -32,13 +34,31 @@ impl<'a> Kinds<'a> {
         let replacement = |after| self.replacement(after).ok_or("store: not there");
         let on_the_spot = replacement(self.on_the_spot)?;
         on_the_spot.stays(self.value)?;
-        if map(self.plan, self.on_the_spot) != map(self.plan, self.tight) {
+        if live::map(self.plan, self.on_the_spot) != live::map(self.plan, self.tight) {
             return Err("store and store_tight: not the same map".to_string());
         }
         Ok(match kind {
             Kind::OnTheSpot => on_the_spot.events_on_the_spot(),
             Kind::Tight => replacement(self.tight)?.events_tight(),
         })
+    }
+
+    /// The tight store has left the right links. Answers whether it sent home
+    /// the tier that it emptied.
+    pub fn tight_sent_home(&self) -> Outcome<bool> {
+        let new = live::entry_of(self.plan, self.tight, self.key);
+        let new = new.ok_or("store_tight: not there")?;
+        let edit = Edit {
+            plan: self.plan,
+            before: self.before,
+            after: self.tight,
+            key: self.key,
+            segment: new.segment,
+            deed: Deed::Placed(new.tier),
+        };
+        let links = Links::of(&edit);
+        links.are_right()?;
+        Ok(links.sent_home().is_some())
     }
 
     /// A new key, or a replacement of another number of chunks.
@@ -108,12 +128,4 @@ impl Replacement<'_> {
         entries.retain(|entry| entry.key != self.new.key);
         entries
     }
-}
-
-/// Keys and records, sorted.
-fn map<'a>(plan: &Plan, image: &'a [u8]) -> Vec<(&'a [u8], &'a [u8])> {
-    let entries = live::entries(plan, image).into_iter();
-    let mut map: Vec<_> = entries.map(|entry| (entry.key, entry.record)).collect();
-    map.sort();
-    map
 }

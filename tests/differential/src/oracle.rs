@@ -1,6 +1,7 @@
 //! Where a store must put its entry, found the slow way: every slot, every
 //! bit, one after the other. It does not share a line with the reference.
 
+use crate::live::Live;
 use crate::model::length_bytes;
 use crate::plan::Plan;
 use crate::render::get;
@@ -23,6 +24,13 @@ impl Oracle<'_> {
         chain
     }
 
+    /// The extra tiers of a segment that have no entry, in chain order.
+    pub fn empty_tiers(&self, segment: usize) -> Vec<usize> {
+        let mut tiers = self.chain(segment);
+        tiers.retain(|&tier| !self.plan.is_main(tier) && self.full_slots(tier) == 0);
+        tiers
+    }
+
     /// Tier and first chunk of a new entry, with the old one of its key
     /// (which covers `old_chunks`) taken out. None: nothing has room.
     pub fn place(&self, key: &[u8], chunks: usize, old_chunks: usize) -> Option<(usize, usize)> {
@@ -35,6 +43,12 @@ impl Oracle<'_> {
             0 => None,
             free => Some((free, 0)),
         }
+    }
+
+    /// A tight store of as many chunks would move an entry to an earlier tier.
+    pub fn has_earlier_room(&self, entry: &Live) -> bool {
+        let place = self.place(entry.key, entry.chunks, entry.chunks);
+        place.is_some_and(|(tier, _)| tier != entry.tier)
     }
 
     pub fn first_free(&self) -> usize {
@@ -57,7 +71,7 @@ impl Oracle<'_> {
         runs.max().unwrap_or(0)
     }
 
-    fn full_slots(&self, tier: usize) -> usize {
+    pub fn full_slots(&self, tier: usize) -> usize {
         let slots = 0..self.plan.slots;
         let number = |slot| get(self.image, self.plan.slot(tier, slot), self.plan.slot_size);
         slots.filter(|&slot| number(slot) != 0).count()
@@ -91,6 +105,18 @@ impl Oracle<'_> {
             return None;
         }
         marks.windows(chunks).position(|run| !run.contains(&true))
+    }
+
+    pub fn low_mark(&self, tier: usize) -> u64 {
+        let (at, width) = self.plan.lowest_free_field(tier);
+        get(self.image, at, width)
+    }
+
+    /// The number of chunks where none is clear.
+    pub fn lowest_clear(&self, tier: usize) -> usize {
+        let mut chunks = 0..self.plan.chunks;
+        let lowest = chunks.find(|&chunk| !self.mark(tier, chunk));
+        lowest.unwrap_or(self.plan.chunks)
     }
 
     pub fn mark(&self, tier: usize, chunk: usize) -> bool {

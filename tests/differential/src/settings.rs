@@ -6,6 +6,8 @@ use crate::rng::Rng;
 /// How large an image may get.
 #[derive(Clone, Copy, Debug, PartialEq)]
 pub enum Size {
+    /// Tiers for few entries, so that chains get long and tiers empty often.
+    Narrow,
     Tiny,
     Small,
     Medium,
@@ -29,7 +31,7 @@ impl Size {
 
     fn most_bytes(self) -> usize {
         match self {
-            Size::Tiny => 4 << 10,
+            Size::Narrow | Size::Tiny => 4 << 10,
             Size::Small => 24 << 10,
             Size::Medium => 110 << 10,
             Size::Roomy => 500 << 10,
@@ -41,6 +43,7 @@ impl Size {
     /// The most slots (a power of two), chunks and bytes in a chunk.
     fn limits(self) -> (u32, usize, usize) {
         match self {
+            Size::Narrow => (3, 8, 12),
             Size::Tiny => (4, 24, 24),
             Size::Small => (6, 130, 64),
             Size::Medium => (10, 1000, 300),

@@ -7,6 +7,7 @@ use crate::channels;
 use crate::compare::Outcome;
 use crate::damage::DAMAGES;
 use crate::defects::DEFECTS;
+use crate::empty_tiers;
 use crate::lengths;
 use crate::low_marks;
 use crate::on_the_spot;
@@ -34,7 +35,7 @@ pub struct Tally {
     /// How often each planned fault was made.
     pub faults: BTreeMap<&'static str, u64>,
     /// How often what is planned for lengths, low marks, searches, the kinds
-    /// of store, further bulks and the pair calls came up.
+    /// of store, further bulks, empty tiers and the pair calls came up.
     pub met: BTreeMap<String, u64>,
 }
 
@@ -62,6 +63,7 @@ impl Tally {
         let planned = channels::planned().into_iter();
         let planned = planned
             .chain(bulks::planned())
+            .chain(empty_tiers::planned())
             .chain(lengths::planned())
             .chain(low_marks::planned())
             .chain(on_the_spot::planned())
@@ -101,7 +103,7 @@ impl Tally {
 pub fn came<const N: usize>(
     events: [&str; N],
     came: [bool; N],
-    name: fn(&str) -> String,
+    name: impl Fn(&str) -> String,
 ) -> Vec<String> {
     let events = events.into_iter().zip(came).filter(|(_, came)| *came);
     events.map(|(event, _)| name(event)).collect()

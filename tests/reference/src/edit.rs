@@ -51,6 +51,7 @@ pub fn remove(block: &[u8], image: &mut [u8], key: &[u8]) -> Answer<()> {
     let found = map.find(image, parts, key).map_err(|_| number::ABSENT)?;
     let old = Old::from(found);
     map.take_out(image, old);
+    map.free_if_empty(image, parts.segment, &old.tier);
     Ok(())
 }
 
@@ -81,6 +82,12 @@ pub fn store(kind: Kind, block: &[u8], image: &mut [u8], key: &[u8], value: &[u8
     };
     map.write_at(image, &tier, first_chunk, key, value);
     map.put_in(image, &tier, parts, key, first_chunk, needed);
+    // An empty tier has room for any entry. So if the old entry's tier is empty
+    // now, an earlier one has taken the new entry, and the chain is still as
+    // the check has read it.
+    if let Some(old) = old {
+        map.free_if_empty(image, parts.segment, &old.tier);
+    }
     Ok(())
 }
 
@@ -151,6 +158,37 @@ impl Accepted {
         tier.set_next(image, 0);
         tier.set_standing(image, last.index, segment, chain.len());
         tier.set_entry_count(image, 0);
+    }
+
+    /// Makes an extra tier the first free one if its last entry has gone. Its
+    /// previous, segment and order stay: of a free tier they are not read. A
+    /// main tier is never free.
+    fn free_if_empty(&self, image: &mut [u8], segment: usize, tier: &Tier) {
+        if tier.header.is_some() || tier.entry_count(image) > 0 {
+            return;
+        }
+        self.unlink(image, segment, tier);
+        let head = self.frame.first_free(image);
+        let used = self.frame.used(image) - 1;
+        tier.set_next(image, head);
+        self.frame.set_first_free(image, tier.index as u64);
+        self.frame.set_used(image, used);
+    }
+
+    /// Joins the neighbours of an extra tier in its chain. Every later tier
+    /// then stands one place further to the front.
+    fn unlink(&self, image: &mut [u8], segment: usize, tier: &Tier) {
+        let chain = self.chains.of(segment);
+        let place = chain.iter().position(|&index| index as usize == tier.index);
+        let place = place.expect("a tier that had an entry is chained");
+        let mut previous = self.frame.tier(chain[place - 1] as usize);
+        let next = tier.next(image);
+        previous.set_next(image, next);
+        for (order, &index) in (place..).zip(&chain[place + 1..]) {
+            let later = self.frame.tier(index as usize);
+            later.set_standing(image, previous.index, segment, order);
+            previous = later;
+        }
     }
 
     /// Writes an entry from a chunk on, and nothing after its end.

@@ -62,20 +62,22 @@ pub fn lookup(block: &[u8], image: &[u8], key: &[u8]) -> (u32, [u64; 4]) {
 }
 
 /// Puts `value` under `key`. An earlier entry that takes as many chunks is
-/// written over on the spot.
+/// written over on the spot; any other is replaced as by [`store_tight`].
 pub fn store(block: &[u8], image: &mut [u8], key: &[u8], value: &[u8]) -> u32 {
     let stored = edit::store(Kind::OnTheSpot, block, image, key, value);
     stored.err().unwrap_or(0)
 }
 
 /// Puts `value` under `key`. An earlier entry is taken out first whatever
-/// its size, so that the new one goes to the lowest run.
+/// its size, so that the new one goes to the lowest run. Its tier, if that is
+/// left empty, is freed as by [`remove`].
 pub fn store_tight(block: &[u8], image: &mut [u8], key: &[u8], value: &[u8]) -> u32 {
     let stored = edit::store(Kind::Tight, block, image, key, value);
     stored.err().unwrap_or(0)
 }
 
-/// Drops the entry of `key`.
+/// Drops the entry of `key`. An extra tier that is left empty leaves its
+/// chain and becomes the first free one.
 pub fn remove(block: &[u8], image: &mut [u8], key: &[u8]) -> u32 {
     edit::remove(block, image, key).err().unwrap_or(0)
 }

@@ -1,5 +1,8 @@
 //! The worked store, the run-only cases, and cases of our own.
 
+mod empty_tiers;
+mod empty_tiers_settings;
+mod empty_tiers_stores;
 mod grow;
 mod grow_settings;
 mod hash_vectors;

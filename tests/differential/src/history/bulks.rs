@@ -10,10 +10,16 @@ impl History<'_, '_> {
     /// Entries and chunks are counted anew; the new tiers are free.
     pub fn grow(&mut self) -> Outcome<u32> {
         let first_tier = self.plan.tiers() + 1;
+        let oracle = Oracle {
+            plan: &self.plan,
+            image: self.pair.image(),
+        };
+        let first_free = oracle.first_free();
         let number = bulks::add(&mut self.plan, &mut self.pair)?;
         if number == 0 {
-            let event = self.course.grown(first_tier);
-            event.into_iter().for_each(|event| self.pair.met(event));
+            let events = self.course.grown(first_tier).into_iter();
+            let events = events.chain(self.went_home.grown(first_free));
+            events.for_each(|event| self.pair.met(event));
             self.totals()?;
         }
         Ok(number)

@@ -4,7 +4,7 @@
 use super::History;
 use crate::channels;
 use crate::compare::Outcome;
-use crate::kinds::Kind;
+use crate::kinds::{Call, Kind};
 use crate::on_the_spot;
 
 impl History<'_, '_> {
@@ -83,7 +83,7 @@ impl History<'_, '_> {
         self.not_full(&key, &record, number)?;
         if let (0, Some(place)) = (number, place) {
             self.is_a_store(&key, &record)?;
-            self.stored(Kind::OnTheSpot, key, record, place)?;
+            self.stored(Call::SetDelay, key, record, place)?;
         }
         Ok(())
     }

@@ -1,14 +1,12 @@
-//! Stores of both kinds, held against the plain map, a slow search and each
-//! other.
+//! Stores of both kinds, held against the plain map and a slow search.
 
 use super::{History, head};
 use crate::compare::Outcome;
 use crate::draw;
-use crate::kinds::Kind;
+use crate::edit::Deed;
+use crate::kinds::{Call, Kind};
 use crate::lengths;
 use crate::live;
-use crate::low_marks::Deed;
-use crate::on_the_spot::{self, Kinds};
 use crate::oracle::Oracle;
 use crate::search_ends::Search;
 
@@ -23,6 +21,8 @@ impl History<'_, '_> {
         let number = self.store_of(kind, &key, &value)?;
         if number == 10 && self.grows > 0 && self.rng.percent(50) {
             self.again_after_a_bulk(kind, &key, &value)?;
+        } else if number == 10 && self.rng.percent(20) {
+            self.again_after_removals(kind, &key, &value)?;
         }
         Ok(())
     }
@@ -43,7 +43,7 @@ impl History<'_, '_> {
             self.is_removed_first(key, value, number)?;
         }
         match place {
-            Some(place) => self.stored(kind, key.to_vec(), value.to_vec(), place)?,
+            Some(place) => self.stored(Call::Store(kind), key.to_vec(), value.to_vec(), place)?,
             None => self.refused_alike(kind, key, value, number)?,
         }
         Ok(number)
@@ -71,14 +71,22 @@ impl History<'_, '_> {
         self.old_chunks(key) == Some(self.plan.chunks_of(key.len(), value.len()))
     }
 
-    /// As many chunks or fewer have room where the old ones are.
+    /// As many chunks or fewer have room where the old ones are, and as many
+    /// as an entry may take where the old one is the only one in its tier.
     pub fn not_full(&self, key: &[u8], value: &[u8], number: u32) -> Outcome<()> {
         let chunks = self.plan.chunks_of(key.len(), value.len());
         let old_chunks = self.old_chunks(key).unwrap_or(0);
-        if number == 10 && chunks <= old_chunks {
+        if number == 10 && (chunks <= old_chunks || self.is_alone(key)) {
             return Err(format!("10 for {chunks} chunks in place of {old_chunks}"));
         }
         Ok(())
+    }
+
+    /// The key has an entry, which is the only one in its tier.
+    fn is_alone(&self, key: &[u8]) -> bool {
+        let (plan, image) = (&self.plan, self.pair.image());
+        let old = live::entry_of(plan, image, key);
+        old.is_some_and(|old| Oracle { plan, image }.full_slots(old.tier) == 1)
     }
 
     /// Tier and chunk that a store must choose.
@@ -93,44 +101,27 @@ impl History<'_, '_> {
         Oracle { plan, image }.place(key, chunks, old_chunks)
     }
 
-    /// A tight replacement has done what a removal and then a store do.
-    fn is_removed_first(&self, key: &[u8], value: &[u8], number: u32) -> Outcome<()> {
-        let (_, without) = self.pair.remove_on(self.pair.before(), key)?;
-        let (again, image) = self.pair.store_on(&without, Kind::OnTheSpot, key, value)?;
-        if again != number || number == 0 && image != self.pair.image() {
-            return Err(format!(
-                "store_tight: not what a removal and a store do ({number}, {again})"
-            ));
-        }
-        Ok(())
-    }
-
-    /// The other kind refuses with the same number.
-    fn refused_alike(&self, kind: Kind, key: &[u8], value: &[u8], number: u32) -> Outcome<()> {
-        let before = self.pair.before();
-        let (other, _) = self.pair.store_on(before, kind.other(), key, value)?;
-        self.expect(kind.other().name(), other, number)
-    }
-
-    /// What holds after a store of either kind that was answered 0.
+    /// What holds after a store that was answered 0.
     pub fn stored(
         &mut self,
-        kind: Kind,
+        call: Call,
         key: Vec<u8>,
         value: Vec<u8>,
         place: (usize, usize),
     ) -> Outcome<()> {
+        let kind = call.kind();
         self.stands_at(&key, &value, place)?;
         self.course.stored(kind == Kind::Tight);
         self.joined(place.0);
         for length in lengths::brought(key.len(), value.len()) {
             self.pair.met(length);
         }
+        let as_many = self.is_as_many(&key, &value);
         let deed = match kind {
-            Kind::OnTheSpot if self.is_as_many(&key, &value) => Deed::OnTheSpot(place.0),
+            Kind::OnTheSpot if as_many => Deed::OnTheSpot(place.0),
             _ => Deed::Placed(place.0),
         };
-        self.low_marks(&key, deed)?;
+        self.edited(&key, deed, |links| links.of_store(call, as_many))?;
         self.by_both_kinds(kind, &key, &value)?;
         self.records.insert(key, value);
         Ok(())
@@ -153,47 +144,6 @@ impl History<'_, '_> {
         };
         let events = search.stored_at(tier as usize, slot as usize)?;
         events.into_iter().for_each(|event| self.pair.met(event));
-        Ok(())
-    }
-
-    /// The same store by the other kind, on a copy of the image before.
-    fn by_both_kinds(&mut self, kind: Kind, key: &[u8], value: &[u8]) -> Outcome<()> {
-        let before = self.pair.before();
-        let (number, other) = self.pair.store_on(before, kind.other(), key, value)?;
-        self.expect(kind.other().name(), number, 0)?;
-        let (on_the_spot, tight) = match kind {
-            Kind::OnTheSpot => (self.pair.image(), &other[..]),
-            Kind::Tight => (&other[..], self.pair.image()),
-        };
-        let kinds = Kinds {
-            plan: &self.plan,
-            before,
-            on_the_spot,
-            tight,
-            key,
-            value,
-        };
-        let events = if self.is_as_many(key, value) {
-            self.same_counts(on_the_spot, tight)?;
-            let mut events = kinds.of_as_many(kind)?;
-            events.extend(on_the_spot::store_after(self.rng, &kinds, &self.pair)?);
-            events
-        } else {
-            kinds.of_others(kind)?
-        };
-        events.into_iter().for_each(|event| self.pair.met(event));
-        Ok(())
-    }
-
-    /// The check accepts both, with as many entries and marked chunks.
-    fn same_counts(&self, on_the_spot: &[u8], tight: &[u8]) -> Outcome<()> {
-        let [one, other] = [on_the_spot, tight].map(|image| self.pair.check_of(image));
-        let ((one, counts), (other, other_counts)) = (one?, other?);
-        if (one, other) != (0, 0) || counts[..2] != other_counts[..2] {
-            return Err(format!(
-                "check after each kind: {one} {counts:?} and {other} {other_counts:?}"
-            ));
-        }
         Ok(())
     }
 }

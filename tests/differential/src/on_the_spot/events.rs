@@ -47,6 +47,7 @@ pub fn planned() -> Vec<String> {
     let kinds = kinds.chain(MOVED.map(moved)).chain(TIGHT.map(tight));
     kinds
         .chain([set_on_the_spot(), later([10, 0]), later([0, 10])])
+        .chain([later_at_home()])
         .collect()
 }
 
@@ -59,6 +60,11 @@ pub fn later([on_the_spot, tight]: [u32; 2]) -> String {
     format!("a later store answered {on_the_spot} after one on the spot, {tight} after a tight one")
 }
 
+/// The same where the tight one has sent home its tier, which is then free.
+pub fn later_at_home() -> String {
+    later([10, 0]) + " that sent its tier home"
+}
+
 impl Replacement<'_> {
     pub(super) fn events_on_the_spot(&self) -> Vec<String> {
         let (old, new) = (self.old.record.len(), self.new.record.len());
@@ -69,7 +75,7 @@ impl Replacement<'_> {
             self.new.record == self.old.record,
             new_size > old_size,
             new_size < old_size,
-            self.has_earlier_room(),
+            self.oracle().has_earlier_room(&self.old),
             self.oracle().is_full(),
             self.leaves_old_bytes(),
             self.leaves_last_bytes(),
@@ -114,13 +120,6 @@ impl Replacement<'_> {
             plan: self.plan,
             image: self.before,
         }
-    }
-
-    /// The tight store would go there.
-    fn has_earlier_room(&self) -> bool {
-        let chunks = self.old.chunks;
-        let place = self.oracle().place(self.old.key, chunks, chunks);
-        place.is_some_and(|(tier, _)| tier != self.old.tier)
     }
 
     /// The ends of the new entry, of the old one and of their last chunk.

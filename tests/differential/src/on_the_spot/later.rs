@@ -2,7 +2,7 @@
 //! the one kind and 0 after the other.
 
 use super::Kinds;
-use super::events::later;
+use super::events::{later, later_at_home};
 use crate::compare::{Outcome, Pair};
 use crate::draw;
 use crate::kinds::Kind;
@@ -17,11 +17,18 @@ pub fn store_after(rng: &mut Rng, kinds: &Kinds, pair: &Pair) -> Outcome<Option<
     let segment = plan.parts(kinds.key).0;
     let images = [kinds.on_the_spot, kinds.tight];
     let oracles = images.map(|image| Oracle { plan, image });
-    let one_is_free = oracles[0].first_free() != 0;
-    let runs = oracles.map(|oracle| oracle.longest_run(segment));
-    let chunks = runs[0].max(runs[1]).min(plan.most_chunks);
-    let expected = runs.map(|run| if run < chunks { 10 } else { 0 });
-    if one_is_free || expected == [0, 0] {
+    if oracles[0].first_free() != 0 {
+        return Ok(None);
+    }
+    // The tight store may have sent a tier home, which takes any entry.
+    let came_home = oracles[1].first_free() != 0;
+    let [spot_run, mut tight_run] = oracles.map(|oracle| oracle.longest_run(segment));
+    if came_home {
+        tight_run = plan.chunks;
+    }
+    let chunks = spot_run.max(tight_run).min(plan.most_chunks);
+    let expected = [spot_run, tight_run].map(|run| if run < chunks { 10 } else { 0 });
+    if expected == [0, 0] {
         return Ok(None);
     }
     let Some((key, value)) = new_entry(rng, kinds, segment, chunks) else {
@@ -35,7 +42,10 @@ pub fn store_after(rng: &mut Rng, kinds: &Kinds, pair: &Pair) -> Outcome<Option<
             "a later store: {numbers:?}, meant was {expected:?}"
         ));
     }
-    Ok(Some(later(numbers)))
+    Ok(Some(match came_home {
+        true => later_at_home(),
+        false => later(numbers),
+    }))
 }
 
 /// A new key of a segment, and a value that takes so many chunks with it.

@@ -10,9 +10,9 @@ use crate::{check, entry, grow, lookup, store};
 /// Settings and a headers offset. Images are built by them, and what a new
 /// bulk should hold is said by them, apart from the code that is tested.
 #[derive(Debug)]
-struct Shape {
-    fields: [u32; 17],
-    headers: usize,
+pub struct Shape {
+    pub fields: [u32; 17],
+    pub headers: usize,
 }
 
 const X: Shape = Shape {
@@ -20,28 +20,28 @@ const X: Shape = Shape {
     headers: 64,
 };
 
-fn uint(bytes: &[u8]) -> usize {
+pub fn uint(bytes: &[u8]) -> usize {
     let digits = bytes.iter().rev();
     digits.fold(0, |number, byte| number << 8 | *byte as usize)
 }
 
 impl Shape {
     /// By its number in the table of fields.
-    fn field(&self, number: usize) -> usize {
+    pub fn field(&self, number: usize) -> usize {
         self.fields[number - 1] as usize
     }
 
-    fn block(&self) -> Vec<u8> {
+    pub fn block(&self) -> Vec<u8> {
         block_of(self.fields)
     }
 
-    fn store_size(&self, bulks: usize) -> usize {
+    pub fn store_size(&self, bulks: usize) -> usize {
         let main = self.field(2) * (self.field(3) + self.field(13));
         self.headers + main + bulks * self.field(16)
     }
 
     /// Start of an extra tier, counted from 0.
-    fn extra(&self, n: usize) -> usize {
+    pub fn extra(&self, n: usize) -> usize {
         let (bulk, place) = (n / self.field(15), n % self.field(15));
         self.store_size(bulk) + self.field(14) + place * self.field(13)
     }
@@ -67,7 +67,7 @@ impl Shape {
 
     /// Made of any bytes, which stay where none is read. The free chain is
     /// ascending.
-    fn empty_store(&self, bulks: usize, mut image: Vec<u8>) -> Vec<u8> {
+    pub fn empty_store(&self, bulks: usize, mut image: Vec<u8>) -> Vec<u8> {
         let (state, segments) = (self.field(1), self.field(2));
         let extra = bulks * self.field(15);
         let first_free = if extra == 0 { 0 } else { segments + 1 };
@@ -113,7 +113,7 @@ impl Shape {
 }
 
 /// One chunk to a tier, no gaps, and this many tiers in a bulk.
-fn small(segments: u32, in_bulk: u32) -> Shape {
+pub fn small(segments: u32, in_bulk: u32) -> Shape {
     let tier = 16 + 64 + 1 + 8;
     let bulk = in_bulk * tier;
     Shape {
@@ -212,12 +212,12 @@ fn numbers_of_two_bytes() {
     refuses(&shape.block(), &image, 13);
 }
 
-fn noise(chance: &mut Chance, length: usize) -> Vec<u8> {
+pub fn noise(chance: &mut Chance, length: usize) -> Vec<u8> {
     (0..length).map(|_| chance.below(256) as u8).collect()
 }
 
 /// Small settings with all kinds of gaps.
-fn any_shape(chance: &mut Chance) -> Shape {
+pub fn any_shape(chance: &mut Chance) -> Shape {
     let mut below = |limit: u32| chance.below(u64::from(limit)) as u32;
     let (state, segments, header) = (64 * below(3), 1 << below(3), 32 + below(9));
     let (slot, slots) = (4 + 4 * below(2), 4 << below(3));

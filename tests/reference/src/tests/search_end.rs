@@ -25,14 +25,14 @@ fn refused(block: &[u8], image: &[u8], key: &[u8], number: u32) {
 
 /// Stores records of four bytes: with a key of two, one chunk each.
 #[track_caller]
-fn put(block: &[u8], image: &mut [u8], keys: &[[u8; 2]]) {
+pub fn put(block: &[u8], image: &mut [u8], keys: &[[u8; 2]]) {
     for key in keys {
         assert_eq!(store(block, image, key, &[9; 4]), 0, "{key:02X?}");
     }
 }
 
 #[track_caller]
-fn drop_keys(block: &[u8], image: &mut [u8], keys: &[[u8; 2]]) {
+pub fn drop_keys(block: &[u8], image: &mut [u8], keys: &[[u8; 2]]) {
     for key in keys {
         assert_eq!(remove(block, image, key), 0, "{key:02X?}");
     }
@@ -124,21 +124,27 @@ fn slots_of_eight_bytes() {
 
 /// X with three bulks, and the order of its free chain.
 pub fn three_bulks(free: [u8; 3]) -> Vec<u8> {
+    bulks(&free)
+}
+
+/// X with a bulk for each tier of this free chain.
+pub fn bulks(free: &[u8]) -> Vec<u8> {
+    let size = 296 + 200 * free.len();
     let mut image = store_x();
-    image.resize(896, 0);
-    let next_at = |tier: u8| 360 + 200 * (tier as usize - 2);
-    let changes: [(usize, &[u8]); 5] = [
-        (8, &[3]),
+    image.resize(size, 0);
+    for pair in free.windows(2) {
+        image[200 * pair[0] as usize - 40] = pair[1];
+    }
+    let changes: [(usize, &[u8]); 3] = [
+        (8, &[free.len() as u8]),
         (11, &free[..1]),
-        (25, &896u64.to_le_bytes()),
-        (next_at(free[0]), &free[1..2]),
-        (next_at(free[1]), &free[2..]),
+        (25, &size.to_le_bytes()),
     ];
     with(image, &changes)
 }
 
 /// Three entries in each of the first two tiers and one in the third.
-const SEVEN: [[u8; 2]; 7] = [[1, 2], [2, 1], [3, 1], [1, 3], [4, 1], [5, 1], [6, 1]];
+pub const SEVEN: [[u8; 2]; 7] = [[1, 2], [2, 1], [3, 1], [1, 3], [4, 1], [5, 1], [6, 1]];
 
 /// Tier 1 gets empty, then tier 2 in part, and the search still ends in
 /// tier 3, though only slot 1 is full there.

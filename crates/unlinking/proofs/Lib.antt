@@ -1,0 +1,11 @@
+pub mod Sparing
+pub mod Lowering
+pub mod Neighbours
+pub mod Closing
+pub mod Emptied
+pub mod Kept
+pub mod Writes
+pub mod Chains
+pub mod Unlinked
+pub mod Leaving
+pub mod Home

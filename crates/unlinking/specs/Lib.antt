@@ -1,0 +1,3 @@
+pub mod Unlinking
+pub mod Asking
+pub mod GoingHome
