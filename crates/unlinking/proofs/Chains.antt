@@ -1,7 +1,7 @@
 -- The chains after an extra tier left one: that one is without it, the free chain begins with it, the others are as they were.
 use Prim.Native.Nat.{ℕ, suc, _+_, _<_}
-use mathlib.Core.List.{List, [], _∷_, _++_, List·Memᴰ, List·Memᴰ·head, List·Memᴰ·tail, List·Memᴰ·not-nil, Memᴰ·append-left, Memᴰ·append-right}
-use mathlib.Core.Path.{_≡_, refl, ap, sym, _∙_, subst}
+use mathlib.Core.List.{List, [], _∷_, _++_, List·Memᴰ, List·Memᴰ·tail, List·Memᴰ·not-nil, Memᴰ·append-left, Memᴰ·append-right}
+use mathlib.Core.Path.{_≡_, ap, sym, _∙_, subst}
 use mathlib.Core.Logic.{⊎-elim, _≢_}
 use native.Mathlib.Omega.{arith}
 use lib.Dec.{eqb}
@@ -28,7 +28,7 @@ use Rattle.chains.proofs.Chained.{says-segment, chain-segment, free-not-chained
 use Rattle.chains.proofs.AgreeChains.{SameLink, link-chain, link-fit}
 use Rattle.unlinking.specs.Unlinking.{before}
 use Rattle.unlinking.specs.Asking.{ExtraOf}
-use Rattle.unlinking.proofs.Neighbours.{front, rest, chain-at, linked-at, tiers-at, extras-at, is-extra, before-in, before-next, rest-linked, rest-tiers}
+use Rattle.unlinking.proofs.Neighbours.{front, rest, chain-at, tier-in, linked-at, tiers-at, extras-at, is-extra, before-in, before-next, rest-linked, rest-tiers}
 use Rattle.unlinking.proofs.Writes.{Unlinks}
 
 -- what is behind the first of a list: members, and other numbers if the list is linked
@@ -54,7 +54,7 @@ module _ (z : Shape) (img : List ℕ) (s t : ℕ) (fits : ChainsFit z img) (x : 
   hs = x .segmentIn
 
   t-in : List·Memᴰ t (chain z img s)
-  t-in = rw (chain-at z img s t fits x) (Memᴰ·append-right (suc s ∷ xs) (List·Memᴰ·head refl))
+  t-in = tier-in z img s t fits x
 
   p-in : List·Memᴰ p (chain z img s)
   p-in = rw (chain-at z img s t fits x) (Memᴰ·append-left (t ∷ ys) (before-in z img s t fits x))

@@ -1,7 +1,7 @@
 -- Which tiers leave their chains: by the index and the entry count of one.
 use Prim.Native.Nat.{ℕ, suc, _≤_, _<_}
-use mathlib.Core.List.{List, _∷_, List·Memᴰ·cases-cons}
-use mathlib.Core.Path.{_≡_, ap, sym, _∙_}
+use mathlib.Core.List.{List, List·Memᴰ·cases-cons}
+use mathlib.Core.Path.{_≡_}
 use mathlib.Core.Logic.{⊎-elim, _≢_}
 use native.Mathlib.Omega.{arith}
 use lib.ListN.{length}
@@ -10,14 +10,12 @@ use Rattle.layout.specs.declared.Shape.{Shape}
 use Rattle.layout.specs.Tiers.{IsTier}
 use Rattle.layout.specs.Places.{get, countPlace}
 use Rattle.layout.specs.Frame.{Framed}
-use Rattle.chains.specs.Chains.{chain}
-use Rattle.chains.specs.Walk.{extrasOf}
-use Rattle.chains.proofs.Segments.{chain-cons, extras-of}
 use Rattle.chains.proofs.Tiers.{chain-tiers}
 use Rattle.chains.proofs.Chained.{IsChained}
 use Rattle.entries.specs.Live.{fullSlots}
 use Rattle.sound.proofs.Sound.{sound-image}
 use Rattle.unlinking.specs.Unlinking.{unlink, isEmptyExtra, unlinkEmpty}
+use Rattle.unlinking.proofs.Neighbours.{chain-whole}
 use Rattle.unlinking.specs.Asking.{ExtraOf, CanUnlink, CanUnlinkEmpty}
 
 module _ (z : Shape) (img : List ℕ) (t : ℕ) where
@@ -38,11 +36,11 @@ module _ (z : Shape) (img : List ℕ) (t : ℕ) where
     pub extra-of : (c : IsChained z img t) → ExtraOf z img (c .0) t
     extra-of c =
         let s : ℕ = c .0 in
-        let whole : chain z img s ≡ suc s ∷ extrasOf z img s =
-        chain-cons z img s (c .1 .0) ∙ ap (λ (l : List ℕ). suc s ∷ l) (sym (extras-of z img s (c .1 .0))) in
         record {
           segmentIn = c .1 .0;
-          tierIn = ⊎-elim (λ (q : t ≡ suc s). absurd (omega (arith, c .1 .0))) (λ m. m) (List·Memᴰ·cases-cons (rw whole at (c .1 .1)));
+          tierIn =
+              ⊎-elim (λ (q : t ≡ suc s). absurd (omega (arith, c .1 .0))) (λ m. m)
+              (List·Memᴰ·cases-cons (rw (chain-whole z img s (c .1 .0)) at (c .1 .1)));
         }
 
     module _ (can : CanUnlinkEmpty z img t) where

@@ -1,6 +1,6 @@
 -- Where an extra tier stands in its segment's chain: behind which tiers, and before which.
 use Prim.Native.Nat.{ℕ, zero, suc, _≤_, _<_}
-use mathlib.Core.List.{List, _∷_, _++_, List·Memᴰ, List·Memᴰ·tail, Memᴰ·append-left, Memᴰ·append-right}
+use mathlib.Core.List.{List, _∷_, _++_, List·Memᴰ, List·Memᴰ·head, List·Memᴰ·tail, Memᴰ·append-left, Memᴰ·append-right}
 use mathlib.Core.Path.{_≡_, refl, ap, sym, _∙_, subst, subst₂}
 use native.Mathlib.Omega.{arith}
 use lib.Dec.{eqb}
@@ -28,9 +28,13 @@ use Rattle.chains.proofs.Linked.{linked-chain}
 use Rattle.unlinking.specs.Unlinking.{before, later}
 use Rattle.unlinking.specs.Asking.{CanLower, ExtraOf}
 
+-- the main tier, and the extra ones
+pub chain-whole : (z : Shape) (img : List ℕ) (s : ℕ) → s < z .settings .segments → chain z img s ≡ suc s ∷ extrasOf z img s
+chain-whole z img s hs = chain-cons z img s hs ∙ ap (λ (l : List ℕ). suc s ∷ l) (sym (extras-of z img s hs))
+
 module _ (z : Shape) (img : List ℕ) (s t : ℕ) (fits : ChainsFit z img) (x : ExtraOf z img s t) where
   whole : chain z img s ≡ suc s ∷ extrasOf z img s
-  whole = chain-cons z img s (x .segmentIn) ∙ ap (λ (l : List ℕ). suc s ∷ l) (sym (extras-of z img s (x .segmentIn)))
+  whole = chain-whole z img s (x .segmentIn)
 
   pub parts : Splits t (extrasOf z img s)
   parts = member-splits (x .tierIn)
@@ -44,6 +48,9 @@ module _ (z : Shape) (img : List ℕ) (s t : ℕ) (fits : ChainsFit z img) (x : 
 
   pub chain-at : chain z img s ≡ suc s ∷ (front ++ (t ∷ rest))
   chain-at = whole ∙ ap (λ (l : List ℕ). suc s ∷ l) (parts .is)
+
+  pub tier-in : List·Memᴰ t (chain z img s)
+  tier-in = rw chain-at (Memᴰ·append-right (suc s ∷ front) (List·Memᴰ·head refl))
 
   pub linked-at : Linked (nextOf z img) (suc s) (suc s ∷ (front ++ (t ∷ rest)))
   linked-at = rw chain-at at (linked-chain z img s (fits .segmentsFit s (x .segmentIn)))

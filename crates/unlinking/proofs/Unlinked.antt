@@ -1,6 +1,6 @@
 -- An extra tier without entries left its chain: the image is sound, and it holds what it held.
 use Prim.Native.Nat.{ℕ, suc, _<_}
-use mathlib.Core.List.{List, _∷_, _++_, List·Memᴰ, List·Memᴰ·cases-cons, Memᴰ·append-right, List·Memᴰ·head}
+use mathlib.Core.List.{List, _∷_, _++_, List·Memᴰ, List·Memᴰ·cases-cons, List·Memᴰ·head}
 use mathlib.Core.Path.{_≡_, refl, sym, _∙_, subst}
 use mathlib.Core.Logic.{⊎-elim, _≢_}
 use native.Mathlib.Omega.{arith}
@@ -24,7 +24,7 @@ use Rattle.chains.proofs.Chained.{chained-in}
 use Rattle.entries.specs.Live.{slotAt, fullSlots}
 use Rattle.entries.specs.Pairs.{Pair, pairsOf}
 use Rattle.search.specs.Rules.{keyAt, KeysOnce}
-use Rattle.chunks.specs.Chunks.{TierChunksFit, FreeTierFits}
+use Rattle.chunks.specs.Chunks.{MarksFit, TierChunksFit, FreeTierFits}
 use Rattle.sound.specs.Sound.{SoundImage}
 use Rattle.sound.proofs.Sound.{sound-image}
 use Rattle.sound.proofs.Values.{weigh}
@@ -34,7 +34,7 @@ use Rattle.sound.proofs.AgreeEntry.{Moved, entry-moves}
 use Rattle.sound.proofs.AgreeTier.{SameTier, SameCounters, same-tier-fits, same-marks, same-counters, same-free, same-weigh, full-before}
 use Rattle.unlinking.specs.Unlinking.{before, unlink}
 use Rattle.unlinking.specs.Asking.{ExtraOf}
-use Rattle.unlinking.proofs.Neighbours.{front, rest, chain-at, linked-at, is-tier, before-tier, before-in, rest-linked, rest-tiers, later-is, used-some, rest-orders}
+use Rattle.unlinking.proofs.Neighbours.{front, rest, chain-at, tier-in, linked-at, is-tier, before-tier, before-in, rest-linked, rest-tiers, later-is, used-some, rest-orders}
 use Rattle.unlinking.proofs.Closing.{unlink-parts}
 use Rattle.unlinking.proofs.Kept.{Taken}
 use Rattle.unlinking.proofs.Writes.{Unlinks, unlinks}
@@ -77,9 +77,6 @@ module _ (z : Shape) (img : List ℕ) (s t : ℕ) (sound : SoundImage z img) (x 
 
   again : ChainsFit z img′
   again = chains-again z img s t fits x img′ done
-
-  t-in : List·Memᴰ t (chain z img s)
-  t-in = rw (chain-at z img s t fits x) (Memᴰ·append-right (suc s ∷ xs) (List·Memᴰ·head refl))
 
   -- a chained tier was in the same chain
   still : (q : ℕ) → q < z .settings .segments → (u : ℕ) → List·Memᴰ u (chain z img′ q) → List·Memᴰ u (chain z img q)
@@ -130,7 +127,8 @@ module _ (z : Shape) (img : List ℕ) (s t : ℕ) (sound : SoundImage z img) (x 
         ⊎-elim
         (λ (e : u ≡ t).
         let there : SameTier z img img′ t = done .sameTiers t (is-tier z img s t fits x) in
-        rw e (same-free z img img′ t (there .slots) (there .marks) (none-free z img t none s (sound .fits .chunks .tiersFit s (x .segmentIn) t t-in .marks))))
+        let marks : MarksFit z img s t = sound .fits .chunks .tiersFit s (x .segmentIn) t (tier-in z img s t fits x) .marks in
+        rw e (same-free z img img′ t (there .slots) (there .marks) (none-free z img t none s marks)))
         (λ k.
         let there : SameTier z img img′ u = done .sameTiers u (free-tiers z img (fits .freeFits) u k) in
         same-free z img img′ u (there .slots) (there .marks) (sound .fits .chunks .freeFit u k))
