@@ -250,10 +250,11 @@ pub record AloneInExtra (block img : List ℕ) (e : Live) : Type 0 where
 
 -- what becomes of e's tier, where `after` is the image after an edit of e's key
 module _ (block img after : List ℕ) (e : Live) where
-  -- it goes home; or, where a record takes e's place, tier u before it takes the record, and it goes home, or it takes the record itself
+  -- it goes home
   abbrev pub TierGoes : Type 0
   TierGoes = (xs : List ℕ) × (ys : List ℕ) × GoneHome (shape block img) img after (e .segment) (e .tier) xs ys
 
+  -- tier u takes the record that is stored in e's place: u stands before it, and it goes home; or it is u, and every chain stays
   abbrev pub TierReplaced : ℕ → Type 0
   TierReplaced u =
       ((xs : List ℕ) × (ys : List ℕ) × (List·Memᴰ u xs × GoneHome (shape block img) img after (e .segment) (e .tier) xs ys))

@@ -3,14 +3,13 @@ use layout::Counters;
 use layout::Shape;
 ghost use mathlib.Core.List.{_++_};
 ghost use mathlib.Core.Path.{_≡_};
-ghost use lib.ListN.{length};
 ghost use Rattle.layout.specs.Tiers.{tiers};
 ghost use Rattle.layout.specs.Places.{puts};
 ghost use Rattle.chains.specs.Chains.{follow};
 ghost use Rattle.unlinking.specs.Unlinking.{nearer, comesAfter, unlink as Unlinking·unlink, unlinkEmpty};
 ghost use Rattle.unlinking.specs.Asking.{CanLower, CanUnlink, CanUnlinkEmpty};
 
-// The tiers of a chain from t on are one place nearer the main tier.
+// The tiers of a chain from the first of these on are one place nearer the main tier.
 fn lower_orders(z: Shape, img: &mut [u8], first: usize)
     requires { ⌜ CanLower z (now img) first ⌝ }
     ensures { λ r. ⌜ now (img .exit) ≡ puts z (now (img .entry)) (nearer z (now (img .entry)) (follow z (now (img .entry)) (tiers z) first)) ⌝ }
