@@ -18,13 +18,14 @@ lib:
 	rt staticlib chronicle_map_c
 
 # Builds the examples in C, looks up both keys of the sample store and one that is absent, asks for and sets delays by pair, replaces one
-# by both kinds of store, and adds a bulk for the fifth of six new keys.
+# by both kinds of store, adds a bulk for the fifth of six new keys, and asks quickly for all pairs of channels after one check.
 CC99 = gcc -std=c99 -Wall -Wextra -Werror -Iinclude
 example: lib header examples/pairs.store
 	$(CC99) examples/lookup.c target/staticlib/libchronicle_map_c.a -o target/lookup
 	$(CC99) examples/delay.c target/staticlib/libchronicle_map_c.a -o target/delay
 	$(CC99) examples/replace.c target/staticlib/libchronicle_map_c.a -o target/replace
 	$(CC99) examples/grow.c target/staticlib/libchronicle_map_c.a -o target/grow
+	$(CC99) examples/plot.c target/staticlib/libchronicle_map_c.a -o target/plot
 	target/lookup examples/pairs.store 1 2
 	target/lookup examples/pairs.store 2 1
 	target/lookup examples/pairs.store 1 3 || test $$? -eq 1
@@ -34,6 +35,7 @@ example: lib header examples/pairs.store
 	target/delay examples/pairs.store 31 32 -25
 	target/replace examples/pairs.store 1 2 32
 	target/grow examples/pairs.store 6
+	target/plot examples/pairs.store
 
 # The out structs have the layout of the compiled functions' arrays, and a caller with an array of the earlier header does not compile.
 header:
@@ -50,9 +52,11 @@ differential: lib
 	cd bindings/rust && $(CARGO) test --offline -q
 	cd tests/differential && $(CARGO) run --release --offline -q -- $(ARGS)
 
-# Ratios against the independent implementation and, where Debian's libxxhash-dev is installed, against its hash.
+# Ratios against the independent implementation and, where Debian's libxxhash-dev and liblmdb-dev are installed, against the hash of
+# the one and the lookup of the other.
 bench: lib
-	cd tests/bench && $(CARGO) run --release --offline -q $(if $(wildcard /usr/include/xxhash.h),--features xxhash)
+	cd tests/bench && $(CARGO) run --release --offline -q $(if $(wildcard /usr/include/xxhash.h),--features xxhash) \
+		$(if $(wildcard /usr/include/lmdb.h),--features lmdb)
 
 # A short run of the differential tests under valgrind.
 valgrind: lib

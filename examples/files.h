@@ -10,7 +10,7 @@
 enum { BLOCK_LENGTH = 71 };
 
 /* The bytes of a file, with their number in *size, or NULL. */
-static uint8_t *read_file(const char *path, size_t *size)
+static inline uint8_t *read_file(const char *path, size_t *size)
 {
     FILE *file = fopen(path, "rb");
     uint8_t *bytes = NULL;
@@ -46,7 +46,7 @@ struct store {
 };
 
 /* Reads a store for a program. Where that fails, a line on standard error says so, and the answer is 0. */
-static int read_store(const char *program, const char *path, struct store *s)
+static inline int read_store(const char *program, const char *path, struct store *s)
 {
     size_t size;
 
@@ -62,7 +62,7 @@ static int read_store(const char *program, const char *path, struct store *s)
 }
 
 /* A number from least to most, from a word in decimals. */
-static int number(const char *word, int64_t least, int64_t most, int64_t *n)
+static inline int number(const char *word, int64_t least, int64_t most, int64_t *n)
 {
     const char *digits = word[0] == '-' ? word + 1 : word;
     char *end;

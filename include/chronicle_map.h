@@ -3,7 +3,9 @@
  *
  * A call is given a settings block (71 bytes, which say how the image is laid out), the image, and what the
  * call is about: a key, a key and a record, the number of an entry, or a pair of channels. It checks the block
- * and the whole image itself before it does anything else. It allocates nothing and keeps nothing between calls.
+ * and the whole image itself before it does anything else. The two quick calls are the exception: they check the
+ * block and the image's frame, and then read only what the search for their key meets. A call allocates nothing
+ * and keeps nothing between calls.
  *
  * Link with target/staticlib/libchronicle_map_c.a (`make lib`; x86-64 Linux). What each function returns and
  * every byte that it leaves is proved, for any bytes: the contracts are in crates/chronicle_map_c/src/lib.rt.
@@ -11,14 +13,16 @@
  * What a caller owes
  * ------------------
  *   - Each pointer points to as many readable bytes as the length beside it says, `image` of a store, a removal,
- *     a set or a grow to as many writable ones, an out struct to one of its type, and `delay` of an ask to one
- *     number.
+ *     a set or a grow to as many writable ones, an out struct to one of its type, and `delay` of an ask (quick or
+ *     not) to one number.
  *   - No pointer is null. A length of 0 may come with any other pointer.
  *   - The image of a store, a removal, a set or a grow overlaps no other argument: a key or a record that stands
  *     in the image is copied out before it is given. An out struct and `delay` of an ask overlap no other
  *     argument either. What is only read (`const`) may overlap what is only read.
  *   - While a call runs, nobody else writes to what it was given, and nobody else reads what it may write.
  *     Calls on different images may run at the same time, and so may calls that only read one image.
+ *
+ * A quick call asks for the same and no more: the image need not have been checked.
  *
  * Beyond that nothing is asked. The bytes may be any bytes, the lengths any lengths, and n, the channels and a
  * delay any numbers: where they are wrong the call says so by its number.
@@ -35,24 +39,28 @@ extern "C" {
 
 /*
  * The number that a call returns. Of those that apply the first is given, in the order 2 to 8, 11, 12, 9, 13;
- * only where none of these applies, 0, 1 or 10. With any number but 0 the out struct is all zeros, the delay of an
- * ask is 0, and the image is as it was before the call; there is one exception, the place of a lookup that returns 1.
+ * only where none of these applies, 0, 1 or 10. A quick call gives the first of 2, 3, 4, 8 and 11 that applies, then
+ * 18 or 1, whichever its walk meets, then 12 for a record that it found, and else 0. With any number but 0 the out
+ * struct is all zeros, the delay of an ask is 0, and the image is as it was before the call; there is one exception,
+ * the place of a lookup, quick or not, that returns 1.
  */
 enum {
-    CHRONICLE_MAP_DONE = 0,    /* done, or found */
-    CHRONICLE_MAP_ABSENT = 1,  /* no such key (lookup, remove), entry (entry) or pair (delay) */
-    CHRONICLE_MAP_BLOCK = 2,   /* the block's length, its length field or its version is wrong */
-    CHRONICLE_MAP_FIELD = 3,   /* a field of the block breaks its rule */
-    CHRONICLE_MAP_FRAME = 4,   /* the image's length, its offsets or its store size is wrong */
-    CHRONICLE_MAP_CHAINS = 5,  /* the chains of tiers are broken */
-    CHRONICLE_MAP_ENTRIES = 6, /* a slot or an entry is broken */
-    CHRONICLE_MAP_CHUNKS = 7,  /* the marks of chunks or the counters do not fit the entries */
-    CHRONICLE_MAP_KEY = 8,     /* the key is empty or longer than 1,024 bytes */
-    CHRONICLE_MAP_VALUE = 9,   /* the record is longer than 65,535 bytes, or takes more chunks than an entry may */
-    CHRONICLE_MAP_FULL = 10,   /* no tier has room for the entry, and none is free */
-    CHRONICLE_MAP_PAIR = 11,   /* a channel is not one of 1 to 32, or the two are equal */
-    CHRONICLE_MAP_DELAY = 12,  /* the delay, given or stored, is INT32_MIN, or the stored record is not 4 bytes */
-    CHRONICLE_MAP_NO_BULK = 13 /* the image is too short for one more bulk, or the tiers would pass 1,024 */
+    CHRONICLE_MAP_DONE = 0,     /* done, or found */
+    CHRONICLE_MAP_ABSENT = 1,   /* no such key (lookup, remove), entry (entry) or pair (delay) */
+    CHRONICLE_MAP_BLOCK = 2,    /* the block's length, its length field or its version is wrong */
+    CHRONICLE_MAP_FIELD = 3,    /* a field of the block breaks its rule */
+    CHRONICLE_MAP_FRAME = 4,    /* the image's length, its offsets or its store size is wrong */
+    CHRONICLE_MAP_CHAINS = 5,   /* the chains of tiers are broken */
+    CHRONICLE_MAP_ENTRIES = 6,  /* a slot or an entry is broken */
+    CHRONICLE_MAP_CHUNKS = 7,   /* the marks of chunks or the counters do not fit the entries */
+    CHRONICLE_MAP_KEY = 8,      /* the key is empty or longer than 1,024 bytes */
+    CHRONICLE_MAP_VALUE = 9,    /* the record is longer than 65,535 bytes, or takes more chunks than an entry may */
+    CHRONICLE_MAP_FULL = 10,    /* no tier has room for the entry, and none is free */
+    CHRONICLE_MAP_PAIR = 11,    /* a channel is not one of 1 to 32, or the two are equal */
+    CHRONICLE_MAP_DELAY = 12,   /* the delay, given or stored, is INT32_MIN, or the stored record is not 4 bytes */
+    CHRONICLE_MAP_NO_BULK = 13, /* the image is too short for one more bulk, or the tiers would pass 1,024 */
+    CHRONICLE_MAP_WALK = 18     /* the walk of a quick call met a broken next, slot or entry, a chain longer than
+                                   the tiers, or a tier without an empty slot */
 };
 
 /*
@@ -106,6 +114,22 @@ uint32_t chronicle_map_lookup(const uint8_t *block, size_t block_len,
                               const uint8_t *image, size_t image_len,
                               const uint8_t *key, size_t key_len,
                               struct chronicle_map_place *place);
+
+/*
+ * The quick lookup: it checks the block, the image's frame and the key, and then walks the chain of tiers of the
+ * key's segment only, in each tier from the key's start slot to the key or an empty slot. So what it reads does
+ * not depend on the rest of the image. Returns 0, 1, one of 2, 3, 4 and 8, or 18. The place is as in a lookup; with 1 its
+ * tier is the last that the walk came to.
+ * On an image that chronicle_map_check accepts it answers exactly what chronicle_map_lookup answers. On any other
+ * image it is safe too: nothing outside the image is read, and a found record lies within the image. But damage that
+ * the walk does not meet is not noticed, and damage can lead it through more of the image, at most every slot of
+ * every tier. So check an image once, say when the copy arrives, and then ask quickly as long as nobody else writes
+ * to it; edits by this library are fine, they leave an image that the check accepts.
+ */
+uint32_t chronicle_map_quick_lookup(const uint8_t *block, size_t block_len,
+                                    const uint8_t *image, size_t image_len,
+                                    const uint8_t *key, size_t key_len,
+                                    struct chronicle_map_place *place);
 
 /*
  * Stores a record under a key. A record that is already there under the same key is replaced; every other
@@ -173,6 +197,16 @@ uint32_t chronicle_map_entry(const uint8_t *block, size_t block_len,
 uint32_t chronicle_map_delay(const uint8_t *block, size_t block_len,
                              const uint8_t *image, size_t image_len,
                              uint32_t a, uint32_t b, int32_t *delay);
+
+/*
+ * The quick ask: the same by a quick lookup of the pair's key, so what it reads does not depend on the rest of the
+ * image. Returns 0, 1, one of 2, 3, 4 and 11, 18, or 12.
+ * On an image that chronicle_map_check accepts it answers exactly what chronicle_map_delay answers. On any other
+ * image it is as safe as the quick lookup, and notices as little: check an image once, as said there.
+ */
+uint32_t chronicle_map_quick_delay(const uint8_t *block, size_t block_len,
+                                   const uint8_t *image, size_t image_len,
+                                   uint32_t a, uint32_t b, int32_t *delay);
 
 /*
  * Sets the delay of channels a and b, in that order, and so of both orders. It is chronicle_map_store of the

@@ -10,6 +10,48 @@ WORK = os.path.join(REPOSITORY, "target", "faults")
 PAGE = os.path.join(REPOSITORY, "docs", "TESTING.md")
 SEED, COUNT = "1", "60000"
 
+# The walk's reading of an entry, with a copy of its own in which a fault can stand that the check has not.
+ENTRY = "            let stored = settings.stored_at(image, tier, settings.named_chunk(slot))?;\n"
+COPY = """            fn length(bytes: &[u8], shortest: bool) -> Option<(usize, usize)> {
+                let mut number = 0;
+                for (place, &byte) in bytes.iter().take(3).enumerate() {
+                    number |= ((byte & 0x7F) as usize) << (7 * place);
+                    if byte < 0x80 {
+                        return (place == 0 || byte != 0 || !shortest).then_some((number, place + 1));
+                    }
+                }
+                None
+            }
+            fn read<'a>(settings: &Settings, image: &'a [u8], tier: &Tier, chunk: u64) -> Option<Stored<'a>> {
+                if chunk >= settings.chunks as u64 {
+                    return None;
+                }
+                let start = tier.space + chunk as usize * settings.chunk_size;
+                let end = tier.space + settings.chunks * settings.chunk_size;
+                let (key_length, size) = length(&image[start..end], true)?;
+                let (key_at, key_end) = (start + size, start + size + key_length);
+                if key_length == 0 || key_length > 1024 {
+                    return None;
+                }
+                let (value_length, size) = length(image.get(key_end..end)?, true)?;
+                let value_at = key_end + size;
+                if value_length > 65_535 || value_at + value_length > end {
+                    return None;
+                }
+                let value = image.get(value_at..value_at + value_length)?;
+                Some(Stored { key: &image[key_at..key_end], value, value_at })
+            }
+            let stored = read(settings, image, tier, settings.named_chunk(slot))?;
+"""
+
+def copy(*changes):
+    """The copy with these changes, each of a text that it has once."""
+    text = COPY
+    for old, new in changes:
+        assert text.count(old) == 1, (old, text.count(old))
+        text = text.replace(old, new)
+    return text
+
 FAULTS = [
  ("search compares lookup keys and never the stored key", "search.rs",
   "if self.lookup_key(slot) == lookup_key\n                && self.has_key(image, tier, self.first_chunk(slot), key)\n", "if self.lookup_key(slot) == lookup_key\n"),
@@ -106,7 +148,7 @@ FAULTS = [
   "    let map = accept(block, image)?;\n    check_key(key)?;\n    let settings", "    check_key(key)?;\n    let map = accept(block, image)?;\n    let settings"),
  ("XXH64 takes the short way at exactly 32 bytes", "hash.rs",
   "let start = if stripes.is_empty() {", "let start = if stripes.is_empty() || bytes.len() == 32 {"),
- ("an ask forgets the sign of the other order", "pairs.rs", "    Ok(pair.turn(delay))", "    Ok(delay)"),
+ ("an ask forgets the sign of the other order", "pairs.rs", "        Ok(self.turn(delay))", "        Ok(delay)"),
  ("a pair's key has the larger channel first", "pairs.rs",
   "key: [a.min(b) as u8, a.max(b) as u8],", "key: [a.max(b) as u8, a.min(b) as u8],"),
  ("a set stores the most negative number", "pairs.rs", "    let delay = check_delay(delay)?;\n    let record", "    let record"),
@@ -175,7 +217,8 @@ FAULTS = [
  ("a found key has tier and slot exchanged", "search.rs",
   "(0, [entry.value_at, entry.value_length, tier.index, slot])", "(0, [entry.value_at, entry.value_length, slot, tier.index])"),
  ("a refused lookup has tier 1", "lib.rs",
-  "(number, [0; 4])", "(number, [0, 0, u64::from(number == 8), 0])"),
+  "search::lookup(block, image, key).unwrap_or_else(|number| (number, [0; 4]))",
+  "search::lookup(block, image, key).unwrap_or_else(|number| (number, [0, 0, u64::from(number == 8), 0]))"),
  ("a new key fills the slot where the search ended, whichever tier takes it", "edit.rs",
   "        let end = settings.find(image, tier, parts.lookup_key, key, settings.slots);\n",
   "        let last = self.chain(parts.segment).last().unwrap_or(*tier);\n        let end = settings.find(image, if tier.index <= settings.segments { &last } else { tier }, parts.lookup_key, key, settings.slots);\n"),
@@ -482,6 +525,192 @@ FAULTS = [
  ("a replacement on the spot frees the tier that it is alone in", "edit.rs",
   "        map.write_at(image, &old.tier, old.first_chunk, key, value);\n        return Ok(());\n",
   "        map.write_at(image, &old.tier, old.first_chunk, key, value);\n        if old.tier.entry_count(image) == 1 {\n            old.tier.set_entry_count(image, 0);\n            map.free_if_empty(image, parts.segment, &old.tier);\n            old.tier.set_entry_count(image, 1);\n        }\n        return Ok(());\n"),
+ ("the walk takes the first slot with the lookup key", "quick.rs",
+  "            if stored.key == key {\n",
+  "            if stored.key == key || !key.is_empty() {\n"),
+ ("the walk takes the key before its entry is tested", "quick.rs",
+  ENTRY,
+  "            let chunk = settings.named_chunk(slot);\n            let own = chunk < settings.chunks as u64 && settings.has_key(image, tier, chunk, key);\n            let Some(stored) = settings.stored_at(image, tier, chunk) else {\n                let at = tier.space;\n                let (tier, slot, stored) = (tier.index, place, Stored { key: &image[..0], value: &image[at..at], value_at: at });\n                return own.then_some(End::Key { tier, slot, stored });\n            };\n"),
+ ("the walk passes over a broken entry of another key", "quick.rs",
+  ENTRY,
+  "            let chunk = settings.named_chunk(slot);\n            let own = chunk < settings.chunks as u64 && settings.has_key(image, tier, chunk, key);\n            if !own {\n                place = settings.next_slot(place);\n                continue;\n            }\n            let stored = settings.stored_at(image, tier, chunk)?;\n"),
+ ("the walk passes over a broken entry of the key", "quick.rs",
+  ENTRY,
+  "            let chunk = settings.named_chunk(slot);\n            let own = chunk < settings.chunks as u64 && settings.has_key(image, tier, chunk, key);\n            let Some(stored) = settings.stored_at(image, tier, chunk) else {\n                if !own {\n                    return None;\n                }\n                place = settings.next_slot(place);\n                continue;\n            };\n"),
+ ("a broken entry ends the search of its tier", "quick.rs",
+  ENTRY,
+  "            let Some(stored) = settings.stored_at(image, tier, settings.named_chunk(slot)) else {\n                let (tier, slot) = (tier.index, place);\n                return Some(End::Empty { tier, slot });\n            };\n"),
+ ("the walk tests the entries behind the find", "quick.rs",
+  "            if stored.key == key {\n",
+  "            if stored.key == key {\n                let mut later = settings.next_slot(place);\n                for _ in 1..settings.slots {\n                    let slot = settings.slot_at(image, tier, later);\n                    if slot == 0 {\n                        break;\n                    }\n                    if settings.lookup_key(slot) == lookup_key {\n                        settings.stored_at(image, tier, settings.named_chunk(slot))?;\n                    }\n                    later = settings.next_slot(later);\n                }\n"),
+ ("the walk tests the next behind the find", "quick.rs",
+  "        if let End::Key { .. } = end {\n",
+  "        if let End::Key { .. } = end {\n            let next = tier.next(image);\n            if next != 0 && !frame.is_extra(next) {\n                break;\n            }\n"),
+ ("the walk tests every entry, whatever its lookup key", "quick.rs",
+  "        if settings.lookup_key(slot) == lookup_key {\n",
+  "        settings.stored_at(image, tier, settings.named_chunk(slot))?;\n        if settings.lookup_key(slot) == lookup_key {\n"),
+ ("the walk takes the second of two slots with the key", "quick.rs",
+  "            if stored.key == key {\n",
+  "            let later = settings.slot_at(image, tier, settings.next_slot(place));\n            let again = later != 0 && settings.lookup_key(later) == lookup_key && settings.stored_at(image, tier, settings.named_chunk(later)).is_some_and(|later| later.key == key);\n            if stored.key == key && !again {\n"),
+ ("the walk tests the bits above the chunk", "quick.rs",
+  "settings.named_chunk(slot)",
+  "settings.first_chunk(slot)"),
+ ("the walk takes as many bits for the chunk as N needs", "quick.rs",
+  "settings.named_chunk(slot)",
+  "settings.first_chunk(slot) & (settings.chunks.next_power_of_two() as u64 - 1)"),
+ ("the walk tests field 17", "quick.rs",
+  ENTRY,
+  "            let entry = settings.entry_at(image, tier, settings.named_chunk(slot))?;\n            let stored = Stored { key: entry.key, value: &image[entry.value_at..][..entry.value_length], value_at: entry.value_at };\n"),
+ ("the walk tests the chunk's bit", "quick.rs",
+  ENTRY,
+  "            let stored = settings.stored_at(image, tier, settings.named_chunk(slot))?;\n            let chunk = settings.named_chunk(slot) as usize;\n            if image[tier.list + chunk / 8] & 1 << (chunk % 8) == 0 {\n                return None;\n            }\n"),
+ ("the walk tests where a tier says that it stands", "quick.rs",
+  "    for _ in 0..frame.tiers {\n        let tier = frame.tier(index);\n",
+  "    let mut previous = 0;\n    for order in 0..frame.tiers {\n        let tier = frame.tier(index);\n        if !tier.stands_at(image, previous, parts.segment, order) {\n            break;\n        }\n        previous = index;\n"),
+ ("a chain longer than the tiers is an absence", "quick.rs",
+  "    for _ in 0..frame.tiers {\n        let tier = frame.tier(index);\n        let end = search(settings, image, &tier, parts.lookup_key, key).ok_or(number::WALK)?;\n",
+  "    for walked in 0..=frame.tiers {\n        let tier = frame.tier(index);\n        let end = search(settings, image, &tier, parts.lookup_key, key).ok_or(number::WALK)?;\n        if walked == frame.tiers {\n            return Ok(end);\n        }\n"),
+ ("a chain of all the tiers is too long", "quick.rs",
+  "    for _ in 0..frame.tiers {\n",
+  "    for _ in 0..(frame.tiers - 1).max(1) {\n"),
+ ("the walk takes at most 64 tiers", "quick.rs",
+  "    for _ in 0..frame.tiers {\n",
+  "    for _ in 0..frame.tiers.min(64) {\n"),
+ ("a next may be a main tier", "quick.rs",
+  "            next if frame.is_extra(next) => index = next as usize,\n",
+  "            next if next <= frame.tiers as u64 => index = next as usize,\n"),
+ ("a next that is a main tier ends the chain", "quick.rs",
+  "            _ => break,\n",
+  "            next if next <= settings.segments as u64 => return Ok(end),\n            _ => break,\n"),
+ ("a next past the tiers ends the chain", "quick.rs",
+  "            _ => break,\n",
+  "            next if next > frame.tiers as u64 => return Ok(end),\n            _ => break,\n"),
+ ("the last tier is refused as next", "quick.rs",
+  "            next if frame.is_extra(next) => index = next as usize,\n",
+  "            next if frame.is_extra(next) && next < frame.tiers as u64 => index = next as usize,\n"),
+ ("the walk reads a next in 4 bytes", "quick.rs",
+  "        match tier.next(image) {\n",
+  "        match tier.next(image) & 0xFFFF_FFFF {\n"),
+ ("the walk reads a next in 5 bytes", "quick.rs",
+  "        match tier.next(image) {\n",
+  "        match tier.next(image) & 0xFF_FFFF_FFFF {\n"),
+ ("the walk reads a main tier's next from its own counters", "quick.rs",
+  "        match tier.next(image) {\n",
+  "        match crate::bytes::u64_at(image, tier.counters) {\n"),
+ ("the walk ends with the main tier", "quick.rs",
+  "        match tier.next(image) {\n",
+  "        match tier.next(image) * u64::from(tier.header.is_none()) {\n"),
+ ("C full slots lead on to the next tier", "quick.rs",
+  "        place = settings.next_slot(place);\n    }\n    None\n",
+  "        place = settings.next_slot(place);\n    }\n    let (tier, slot) = (tier.index, place);\n    Some(End::Empty { tier, slot })\n"),
+ ("C full slots are 18 though the key is among them", "quick.rs",
+  "    let mut place = settings.start_slot(lookup_key);\n",
+  "    let mut place = settings.start_slot(lookup_key);\n    if (0..settings.slots).all(|place| settings.slot_at(image, tier, place) != 0) {\n        return None;\n    }\n"),
+ ("the walk takes a slot with bits above the chunk's alone for an empty one", "quick.rs",
+  "        if slot == 0 {\n",
+  "        if u128::from(slot) % (1 << (settings.key_bits + settings.chunk_bits)) == 0 {\n"),
+ ("the walk takes a slot with the lookup key 0 for an empty one", "quick.rs",
+  "        if slot == 0 {\n",
+  "        if settings.lookup_key(slot) == 0 {\n"),
+ ("the walk takes C - 1 slots of a tier", "quick.rs",
+  "    for _ in 0..settings.slots {\n",
+  "    for _ in 0..settings.slots - 1 {\n"),
+ ("the search of a tier does not wrap", "quick.rs",
+  "        place = settings.next_slot(place);\n",
+  "        place += 1;\n        if place == settings.slots {\n            break;\n        }\n"),
+ ("the walk starts at slot 0 of each tier", "quick.rs",
+  "    let mut place = settings.start_slot(lookup_key);\n",
+  "    let mut place = 0;\n"),
+ ("the walk starts a slot too late", "quick.rs",
+  "    let mut place = settings.start_slot(lookup_key);\n",
+  "    let mut place = settings.next_slot(settings.start_slot(lookup_key));\n"),
+ ("the walk accepts a key length of 0", "quick.rs",
+  ENTRY, copy(("key_length == 0 || ", ""))),
+ ("the walk accepts a key of 1,025 bytes", "quick.rs",
+  ENTRY, copy(("key_length > 1024", "key_length > 1025"))),
+ ("the walk refuses a key of 1,024 bytes", "quick.rs",
+  ENTRY, copy(("key_length > 1024", "key_length >= 1024"))),
+ ("the walk accepts a key length not in the shortest form", "quick.rs",
+  ENTRY, copy(("length(&image[start..end], true)", "length(&image[start..end], false)"))),
+ ("the walk accepts a value length not in the shortest form", "quick.rs",
+  ENTRY, copy(("length(image.get(key_end..end)?, true)", "length(image.get(key_end..end)?, false)"))),
+ ("the walk accepts a value of 65,536 bytes", "quick.rs",
+  ENTRY, copy(("value_length > 65_535", "value_length > 65_536"))),
+ ("the walk refuses a value of 65,535 bytes", "quick.rs",
+  ENTRY, copy(("value_length > 65_535", "value_length >= 65_535"))),
+ ("the walk accepts an entry that ends a byte past the chunks", "quick.rs",
+  ENTRY, copy(("value_at + value_length > end", "value_at + value_length > end + 1"))),
+ ("the walk refuses an entry that ends with the chunks", "quick.rs",
+  ENTRY, copy(("value_at + value_length > end", "value_at + value_length >= end"))),
+ ("the walk takes an entry up to the end of its tier", "quick.rs",
+  ENTRY, copy(("let end = tier.space + settings.chunks * settings.chunk_size;", "let end = tier.slots + settings.tier_size;"))),
+ ("the walk takes a value up to the end of the image", "quick.rs",
+  ENTRY, copy((" || value_at + value_length > end", ""))),
+ ("the walk accepts chunk N", "quick.rs",
+  ENTRY, copy(("chunk >= settings.chunks as u64", "chunk > settings.chunks as u64"), ("let end = tier.space + settings.chunks * settings.chunk_size;", "let end = tier.space + settings.chunks.max(chunk as usize + 1) * settings.chunk_size;"))),
+ ("an absent key of a quick lookup has its main tier", "quick.rs",
+  "(number::ABSENT, [0, 0, tier, slot])",
+  "(number::ABSENT, [0, 0, frame.settings.hash_parts(key).segment + tier - tier + 1, slot])"),
+ ("an absent key of a quick lookup has its start slot", "quick.rs",
+  "(number::ABSENT, [0, 0, tier, slot])",
+  "(number::ABSENT, [0, 0, tier, frame.settings.start_slot(frame.settings.hash_parts(key).lookup_key) + slot - slot])"),
+ ("an absent key of a quick lookup has tier and slot 0", "quick.rs",
+  "(number::ABSENT, [0, 0, tier, slot])",
+  "(number::ABSENT, [0, 0, tier - tier, slot - slot])"),
+ ("a quick lookup answers an empty record at offset 0", "quick.rs",
+  "(0, [stored.value_at, stored.value.len(), tier, slot])",
+  "(0, [stored.value_at * stored.value.len().min(1), stored.value.len(), tier, slot])"),
+ ("18 comes with tier 1", "lib.rs",
+  "quick::lookup(block, image, key).unwrap_or_else(|number| (number, [0; 4]))",
+  "quick::lookup(block, image, key).unwrap_or_else(|number| (number, [0, 0, u64::from(number == 18), 0]))"),
+ ("8 comes before 4 in a quick lookup", "quick.rs",
+  "    let frame = Frame::read(Settings::read(block)?, image)?;\n    check_key(key)?;\n",
+  "    let settings = Settings::read(block)?;\n    check_key(key)?;\n    let frame = Frame::read(settings, image)?;\n"),
+ ("8 comes before 2 and 3 in a quick lookup", "quick.rs",
+  "    let frame = Frame::read(Settings::read(block)?, image)?;\n    check_key(key)?;\n",
+  "    check_key(key)?;\n    let frame = Frame::read(Settings::read(block)?, image)?;\n"),
+ ("18 comes before 8 in a quick lookup", "quick.rs",
+  "    check_key(key)?;\n    let (number, numbers) = match walk(&frame, image, key)? {\n",
+  "    let end = walk(&frame, image, key)?;\n    check_key(key)?;\n    let (number, numbers) = match end {\n"),
+ ("the quick lookup does not test the key's length", "quick.rs",
+  "    check_key(key)?;\n    let (number",
+  "    let (number"),
+ ("the quick lookup checks the whole image", "quick.rs",
+  "    let frame = Frame::read(Settings::read(block)?, image)?;\n    check_key(key)?;\n",
+  "    let frame = Frame::read(Settings::read(block)?, image)?;\n    check_key(key)?;\n    crate::check::accept(block, image)?;\n"),
+ ("11 comes before 4 in a quick ask", "pairs.rs",
+  "    let frame = Frame::read(Settings::read(block)?, image)?;\n    let pair = Pair::of(a, b)?;\n",
+  "    let settings = Settings::read(block)?;\n    let pair = Pair::of(a, b)?;\n    let frame = Frame::read(settings, image)?;\n"),
+ ("11 comes before 2 and 3 in a quick ask", "pairs.rs",
+  "    let frame = Frame::read(Settings::read(block)?, image)?;\n    let pair = Pair::of(a, b)?;\n",
+  "    let pair = Pair::of(a, b)?;\n    let frame = Frame::read(Settings::read(block)?, image)?;\n"),
+ ("18 comes before 11 in a quick ask", "pairs.rs",
+  "    let frame = Frame::read(Settings::read(block)?, image)?;\n    let pair = Pair::of(a, b)?;\n    match quick::walk(&frame, image, &pair.key)? {\n",
+  "    let frame = Frame::read(Settings::read(block)?, image)?;\n    let end = quick::walk(&frame, image, &[a.min(b) as u8, a.max(b) as u8])?;\n    let pair = Pair::of(a, b)?;\n    match end {\n"),
+ ("1 comes before 11 in a quick ask", "pairs.rs",
+  "    let frame = Frame::read(Settings::read(block)?, image)?;\n    let pair = Pair::of(a, b)?;\n    match quick::walk(&frame, image, &pair.key)? {\n",
+  "    let frame = Frame::read(Settings::read(block)?, image)?;\n    let end = quick::walk(&frame, image, &[a.min(b) as u8, a.max(b) as u8]);\n    if let Ok(End::Empty { .. }) = end {\n        return Err(number::ABSENT);\n    }\n    let pair = Pair::of(a, b)?;\n    match end? {\n"),
+ ("12 comes before 18 in a quick ask", "pairs.rs",
+  "    match quick::walk(&frame, image, &pair.key)? {\n",
+  "    let settings = &frame.settings;\n    let parts = settings.hash_parts(&pair.key);\n    let tier = frame.tier(parts.segment + 1);\n    let own = (0..settings.slots).any(|place| {\n        let slot = settings.slot_at(image, &tier, place);\n        let chunk = settings.named_chunk(slot);\n        settings.lookup_key(slot) == parts.lookup_key && chunk < settings.chunks as u64 && settings.has_key(image, &tier, chunk, &pair.key)\n    });\n    let end = quick::walk(&frame, image, &pair.key);\n    match end.map_err(|given| if own { number::DELAY } else { given })? {\n"),
+ ("a quick ask forgets the sign of the other order", "pairs.rs",
+  "        End::Key { stored, .. } => pair.delay_in(stored.value),\n",
+  "        End::Key { stored, .. } => pair.delay_in(stored.value).map(|delay| pair.turn(delay)),\n"),
+ ("a quick ask gives both orders with the wrong sign", "pairs.rs",
+  "        End::Key { stored, .. } => pair.delay_in(stored.value),\n",
+  "        End::Key { stored, .. } => pair.delay_in(stored.value).map(|delay| -delay),\n"),
+ ("a quick ask reads a record longer than a delay", "pairs.rs",
+  "        End::Key { stored, .. } => pair.delay_in(stored.value),\n",
+  "        End::Key { stored, .. } => pair.delay_in(stored.value.get(..4).unwrap_or(stored.value)),\n"),
+ ("a quick ask gives a stored most negative number", "pairs.rs",
+  "        End::Key { stored, .. } => pair.delay_in(stored.value),\n",
+  "        End::Key { stored, .. } => match stored.value.try_into() {\n            Ok(bytes) => Ok(i32::from_le_bytes(bytes).wrapping_mul(if pair.turned { -1 } else { 1 })),\n            Err(_) => Err(number::DELAY),\n        },\n"),
+ ("a quick ask answers 12 for an absent pair", "pairs.rs",
+  "        End::Empty { .. } => Err(number::ABSENT),\n",
+  "        End::Empty { .. } => Err(number::DELAY),\n"),
+ ("a quick ask answers delay 0 for an absent pair", "pairs.rs",
+  "        End::Empty { .. } => Err(number::ABSENT),\n",
+  "        End::Empty { .. } => Ok(0),\n"),
 ]
 
 def prepare():

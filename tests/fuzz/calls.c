@@ -118,12 +118,19 @@ static void removed(const uint8_t *block, const uint8_t *image, uint8_t *copy, s
     }
 }
 
+/* The ask and the quick ask. */
+typedef uint32_t asking(const uint8_t *, size_t, const uint8_t *, size_t, uint32_t, uint32_t, int32_t *);
+
+static int is_pair(const struct pair *p) {
+    return p->a - 1 < 32 && p->b - 1 < 32 && p->a != p->b;
+}
+
 /* Both orders of a pair: the same number, and delays that sum to 0. Answers the number, and the delay of the first order. */
-static uint32_t ask(const uint8_t *block, const uint8_t *image, size_t length, const struct pair *p, int32_t *delay) {
+static uint32_t ask(asking *by, const uint8_t *block, const uint8_t *image, size_t length, const struct pair *p, int32_t *delay) {
     int32_t other = 0x5a5a5a5a;
     *delay = 0x5a5a5a5a;
-    uint32_t number = chronicle_map_delay(block, BLOCK, image, length, p->a, p->b, delay);
-    need(chronicle_map_delay(block, BLOCK, image, length, p->b, p->a, &other) == number);
+    uint32_t number = by(block, BLOCK, image, length, p->a, p->b, delay);
+    need(by(block, BLOCK, image, length, p->b, p->a, &other) == number);
     need((int64_t)*delay + other == 0);
     need(number == 0 || *delay == 0);
     return number;
@@ -131,10 +138,9 @@ static uint32_t ask(const uint8_t *block, const uint8_t *image, size_t length, c
 
 /* The numbers of an ask and a set: the check's, then 11, then 12, then the others. */
 static void in_order(uint32_t check, const struct pair *p, uint32_t asked, uint32_t set) {
-    int is_pair = p->a - 1 < 32 && p->b - 1 < 32 && p->a != p->b;
     if (check != 0) {
         need(asked == check && set == check);
-    } else if (!is_pair) {
+    } else if (!is_pair(p)) {
         need(asked == 11 && set == 11);
     } else {
         need(asked <= 1 || asked == 12);
@@ -145,12 +151,13 @@ static void in_order(uint32_t check, const struct pair *p, uint32_t asked, uint3
 /* An ask, a set, and an ask for what was set. */
 static void pairs(uint32_t check, const uint8_t *block, const uint8_t *image, uint8_t *copy, size_t length, const struct pair *p) {
     int32_t delay;
-    uint32_t asked = ask(block, image, length, p, &delay);
+    uint32_t asked = ask(chronicle_map_delay, block, image, length, p, &delay);
     uint32_t set = chronicle_map_set_delay(block, BLOCK, copy, length, p->a, p->b, p->delay);
     in_order(check, p, asked, set);
     edited(set, 12, block, image, copy, length);
     if (set == 0) {
-        need(ask(block, copy, length, p, &delay) == 0 && delay == p->delay);
+        need(ask(chronicle_map_delay, block, copy, length, p, &delay) == 0 && delay == p->delay);
+        need(ask(chronicle_map_quick_delay, block, copy, length, p, &delay) == 0 && delay == p->delay);
     }
 }
 
@@ -173,6 +180,47 @@ static void looked(uint32_t check, const uint8_t *block, const uint8_t *image, s
         }
     }
     need(found != 0 || met);
+}
+
+/* The number of a quick call. The check's 2, 3 and 4 are its own, then comes a refused argument, then the walk's 0, 1 or 18. Where the check
+ * says 7 the chains, slots and entries are right, so that no walk meets anything broken. */
+static void quick_number(uint32_t check, uint32_t refused, uint32_t number) {
+    if (check >= 2 && check <= 4) {
+        need(number == check);
+    } else if (refused != 0) {
+        need(number == refused);
+    } else {
+        need(number <= 1 || (number == 18 && (check == 5 || check == 6)));
+    }
+}
+
+/* A quick lookup, held to what the header says of it. Answers its number. */
+static uint32_t quickly(uint32_t check, const uint8_t *block, const uint8_t *image, size_t length, const uint8_t *key, size_t key_length) {
+    struct chronicle_map_place place = {1, 1, 1, 1}, checked;
+    uint32_t found = chronicle_map_quick_lookup(block, BLOCK, image, length, key, key_length, &place);
+    quick_number(check, key_length == 0 ? 8 : 0, found);
+    need(found != 0 || (place.length <= length && place.offset <= length - place.length));
+    need(found == 0 || (place.offset == 0 && place.length == 0));
+    need(found <= 1 ? place.tier != 0 : place.tier == 0 && place.slot == 0);
+    if (check == 0) {
+        need(chronicle_map_lookup(block, BLOCK, image, length, key, key_length, &checked) == found);
+        need(memcmp(&place, &checked, sizeof place) == 0);
+    }
+    return found;
+}
+
+/* A quick ask, held to the quick lookup of the pair's key and, on an image that is accepted, to the ask. */
+static void quick_pair(uint32_t check, const uint8_t *block, const uint8_t *image, size_t length, const struct pair *p) {
+    uint8_t key[2] = {(uint8_t)(p->a < p->b ? p->a : p->b), (uint8_t)(p->a < p->b ? p->b : p->a)};
+    int32_t delay, checked;
+    uint32_t asked = ask(chronicle_map_quick_delay, block, image, length, p, &delay);
+    quick_number(check, is_pair(p) ? 0 : 11, asked == 12 ? 0 : asked);
+    if (is_pair(p)) {
+        need(quickly(check, block, image, length, key, 2) == (asked == 12 ? 0 : asked));
+    }
+    if (check == 0) {
+        need(ask(chronicle_map_delay, block, image, length, p, &checked) == asked && checked == delay);
+    }
 }
 
 /* A key has the same lookup in both images, and the list the same rows. */
@@ -220,6 +268,8 @@ int LLVMFuzzerTestOneInput(const uint8_t *data, size_t size) {
     struct chronicle_map_counts counts;
     uint32_t number = chronicle_map_check(block, BLOCK, image, length, &counts);
     looked(number, block, image, length, key, key_length, counts.entries);
+    quickly(number, block, image, length, key, key_length);
+    quick_pair(number, block, image, length, &pair);
     uint8_t *copy = malloc(length + 1);
     memcpy(copy, image, length);
     stored(block, image, copy, length, key, key_length);

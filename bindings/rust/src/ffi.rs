@@ -22,6 +22,15 @@ mod c {
             key_len: usize,
             place: *mut u64,
         ) -> u32;
+        pub fn chronicle_map_quick_lookup(
+            block: *const u8,
+            block_len: usize,
+            image: *const u8,
+            image_len: usize,
+            key: *const u8,
+            key_len: usize,
+            place: *mut u64,
+        ) -> u32;
         pub fn chronicle_map_store(
             block: *const u8,
             block_len: usize,
@@ -73,6 +82,15 @@ mod c {
             b: u32,
             delay: *mut i32,
         ) -> u32;
+        pub fn chronicle_map_quick_delay(
+            block: *const u8,
+            block_len: usize,
+            image: *const u8,
+            image_len: usize,
+            a: u32,
+            b: u32,
+            delay: *mut i32,
+        ) -> u32;
         pub fn chronicle_map_set_delay(
             block: *const u8,
             block_len: usize,
@@ -100,11 +118,14 @@ pub fn check(block: &[u8], image: &[u8], counts: &mut [u64; 4]) -> u32 {
     }
 }
 
-/// A lookup: its number; the place is the record's offset and length, and the tier and slot of its entry or of the search's end.
-pub fn lookup(block: &[u8], image: &[u8], key: &[u8], place: &mut [u64; 4]) -> u32 {
+/// Both kinds of lookup have these parameters.
+type Lookup =
+    unsafe extern "C" fn(*const u8, usize, *const u8, usize, *const u8, usize, *mut u64) -> u32;
+
+fn lookup_by(kind: Lookup, block: &[u8], image: &[u8], key: &[u8], place: &mut [u64; 4]) -> u32 {
     // SAFETY: as in `check`.
     unsafe {
-        c::chronicle_map_lookup(
+        kind(
             block.as_ptr(),
             block.len(),
             image.as_ptr(),
@@ -114,6 +135,16 @@ pub fn lookup(block: &[u8], image: &[u8], key: &[u8], place: &mut [u64; 4]) -> u
             place.as_mut_ptr(),
         )
     }
+}
+
+/// A lookup: its number; the place is the record's offset and length, and the tier and slot of its entry or of the search's end.
+pub fn lookup(block: &[u8], image: &[u8], key: &[u8], place: &mut [u64; 4]) -> u32 {
+    lookup_by(c::chronicle_map_lookup, block, image, key, place)
+}
+
+/// A quick lookup: its number; the place is as in `lookup`.
+pub fn quick_lookup(block: &[u8], image: &[u8], key: &[u8], place: &mut [u64; 4]) -> u32 {
+    lookup_by(c::chronicle_map_quick_lookup, block, image, key, place)
 }
 
 /// Both kinds of store have these parameters.
@@ -190,11 +221,13 @@ pub fn entry(block: &[u8], image: &[u8], n: u64, row: &mut [u64; 7]) -> u32 {
     }
 }
 
-/// An ask: its number; the delay is that of channels a and b, in that order.
-pub fn delay(block: &[u8], image: &[u8], a: u32, b: u32, delay: &mut i32) -> u32 {
+/// Both kinds of ask have these parameters.
+type Ask = unsafe extern "C" fn(*const u8, usize, *const u8, usize, u32, u32, *mut i32) -> u32;
+
+fn delay_by(kind: Ask, block: &[u8], image: &[u8], a: u32, b: u32, delay: &mut i32) -> u32 {
     // SAFETY: as in `check`.
     unsafe {
-        c::chronicle_map_delay(
+        kind(
             block.as_ptr(),
             block.len(),
             image.as_ptr(),
@@ -204,6 +237,16 @@ pub fn delay(block: &[u8], image: &[u8], a: u32, b: u32, delay: &mut i32) -> u32
             delay,
         )
     }
+}
+
+/// An ask: its number; the delay is that of channels a and b, in that order.
+pub fn delay(block: &[u8], image: &[u8], a: u32, b: u32, delay: &mut i32) -> u32 {
+    delay_by(c::chronicle_map_delay, block, image, a, b, delay)
+}
+
+/// A quick ask: its number; the delay is as in `delay`.
+pub fn quick_delay(block: &[u8], image: &[u8], a: u32, b: u32, delay: &mut i32) -> u32 {
+    delay_by(c::chronicle_map_quick_delay, block, image, a, b, delay)
 }
 
 /// A set of a pair's delay: its number.

@@ -4,6 +4,11 @@
 //! itself before it does anything else. Any bytes may be given: where they are wrong the call answers a [`Refusal`].
 //! A call that refuses leaves the image as it was.
 //!
+//! The quick calls ([`quick_lookup`], [`quick_record`], [`quick_delay`]) are the exception: they check the block and the
+//! image's frame, and then read only what the search for their key meets, so that it does not matter how large the rest of
+//! the image is. They answer as the other calls do on an image that [`check`] accepted and that only this library's calls wrote
+//! to since: so check a copy once, when it arrives, and then ask quickly.
+//!
 //! ```no_run
 //! # fn calls(block: &[u8], image: &mut [u8]) -> Result<(), chronicle_map::Refusal> {
 //! chronicle_map::store(block, image, &[1, 2], &16i32.to_le_bytes())?;
@@ -12,6 +17,7 @@
 //! }
 //! chronicle_map::set_delay(block, image, 4, 3, -25)?;
 //! assert_eq!(chronicle_map::delay(block, image, 3, 4)?, Some(25));
+//! assert_eq!(chronicle_map::quick_delay(block, image, 3, 4)?, Some(25));
 //! # Ok(())
 //! # }
 //! ```
@@ -25,7 +31,8 @@ use std::ops::Range;
 #[allow(unsafe_code)]
 pub mod ffi;
 
-/// Why a call refuses: the first that applies, in the order 2 to 8, 11, 12, 9, 10, 13.
+/// Why a call refuses: the first that applies, in the order 2 to 8, 11, 12, 9, 10, 13; for the quick calls 2, 3, 4, 8, 11,
+/// 18, 12.
 #[derive(Clone, Copy, Debug, PartialEq, Eq, Hash)]
 pub enum Refusal {
     /// 2: the block's length, its length field or its version is wrong.
@@ -52,10 +59,13 @@ pub enum Refusal {
     Delay = 12,
     /// 13: the image is too short for one more bulk, or the tiers would pass 1,024.
     NoBulk = 13,
+    /// 18: the walk of a quick call met a broken next, slot or entry, a chain longer than the tiers, or a tier without an
+    /// empty slot.
+    Walk = 18,
 }
 
 impl Refusal {
-    /// The number of the C interface, 2 to 13.
+    /// The number of the C interface: 2 to 13 or 18.
     pub fn number(self) -> u32 {
         self as u32
     }
@@ -74,6 +84,7 @@ impl Refusal {
             11 => Refusal::Pair,
             12 => Refusal::Delay,
             13 => Refusal::NoBulk,
+            18 => Refusal::Walk,
             other => unreachable!("the library's contracts allow no answer {other} here"),
         }
     }
@@ -94,6 +105,7 @@ impl fmt::Display for Refusal {
             Refusal::Pair => "a channel is not one of 1 to 32, or the two are equal",
             Refusal::Delay => "the delay is the most negative number, or not 4 bytes",
             Refusal::NoBulk => "there is no room for one more bulk",
+            Refusal::Walk => "the search for the key met a broken next, slot or entry",
         };
         write!(f, "refused {}: {reason}", self.number())
     }
@@ -130,7 +142,7 @@ pub enum Located {
     },
     /// No record: where the search ended. A store of the key may go to another tier or slot.
     Absent {
-        /// The last tier of the chain of the key's segment.
+        /// The last tier searched. In an image that [`check`] accepts it is the last of the chain of the key's segment.
         tier: u64,
         /// The first empty slot in that tier from the key's start slot on, wrapping.
         slot: u64,
@@ -187,8 +199,22 @@ pub fn check(block: &[u8], image: &[u8]) -> Result<Counts, Refusal> {
 ///
 /// Keys are compared whole.
 pub fn lookup(block: &[u8], image: &[u8], key: &[u8]) -> Result<Located, Refusal> {
+    located(|place| ffi::lookup(block, image, key, place))
+}
+
+/// The quick lookup: it checks the block, the frame and the key, and then walks the chain of the key's segment only.
+/// Refusals: `Block`, `Field`, `Frame`, `Key`, `Walk`.
+///
+/// On an image that [`check`] accepts it answers exactly what [`lookup`] answers. On any other it is safe too, and a found
+/// record lies within the image, but damage that the walk does not meet is not noticed.
+pub fn quick_lookup(block: &[u8], image: &[u8], key: &[u8]) -> Result<Located, Refusal> {
+    located(|place| ffi::quick_lookup(block, image, key, place))
+}
+
+// What a lookup of either kind tells; it fills the place that it is given.
+fn located(lookup: impl FnOnce(&mut [u64; 4]) -> u32) -> Result<Located, Refusal> {
     let mut place = [0; 4];
-    let number = ffi::lookup(block, image, key, &mut place);
+    let number = lookup(&mut place);
     let [offset, length, tier, slot] = place;
     match number {
         0 => Ok(Located::Found {
@@ -204,7 +230,22 @@ pub fn lookup(block: &[u8], image: &[u8], key: &[u8]) -> Result<Located, Refusal
 
 /// The record of a key, as a part of the image; `None` where the key is absent. Refusals: `Block` to `Key`.
 pub fn record<'a>(block: &[u8], image: &'a [u8], key: &[u8]) -> Result<Option<&'a [u8]>, Refusal> {
-    Ok(lookup(block, image, key)?.range().map(|part| &image[part]))
+    Ok(part(image, lookup(block, image, key)?))
+}
+
+/// The record of a key by [`quick_lookup`], as a part of the image; `None` where the key is absent. Refusals: `Block`,
+/// `Field`, `Frame`, `Key`, `Walk`.
+pub fn quick_record<'a>(
+    block: &[u8],
+    image: &'a [u8],
+    key: &[u8],
+) -> Result<Option<&'a [u8]>, Refusal> {
+    Ok(part(image, quick_lookup(block, image, key)?))
+}
+
+// The bytes of a record that was found in this image.
+fn part(image: &[u8], located: Located) -> Option<&[u8]> {
+    located.range().map(|part| &image[part])
 }
 
 /// Stores a record under a key, or replaces the one that is there. Every other key keeps its record.
@@ -292,8 +333,21 @@ pub fn entry(block: &[u8], image: &[u8], n: u64) -> Result<Option<Row>, Refusal>
 /// as `i32::to_le_bytes` gives it. The other order has the opposite delay: both, found with no edit between the two, sum
 /// to 0.
 pub fn delay(block: &[u8], image: &[u8], a: u32, b: u32) -> Result<Option<i32>, Refusal> {
+    asked(|delay| ffi::delay(block, image, a, b, delay))
+}
+
+/// The quick ask: [`delay`] by [`quick_lookup`]. `None` where the walk finds nothing under the pair's key. Refusals: `Block`,
+/// `Field`, `Frame`, `Pair`, `Walk`, `Delay`.
+///
+/// On an image that [`check`] accepts it answers exactly what [`delay`] answers.
+pub fn quick_delay(block: &[u8], image: &[u8], a: u32, b: u32) -> Result<Option<i32>, Refusal> {
+    asked(|delay| ffi::quick_delay(block, image, a, b, delay))
+}
+
+// What an ask of either kind tells; it fills the delay that it is given.
+fn asked(ask: impl FnOnce(&mut i32) -> u32) -> Result<Option<i32>, Refusal> {
     let mut delay = 0;
-    match ffi::delay(block, image, a, b, &mut delay) {
+    match ask(&mut delay) {
         0 => Ok(Some(delay)),
         1 => Ok(None),
         number => Err(Refusal::of(number)),

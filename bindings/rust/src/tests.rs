@@ -266,6 +266,7 @@ fn refusals_by_number() {
     assert_eq!(Refusal::Pair.number(), 11);
     assert_eq!(Refusal::Delay.number(), 12);
     assert_eq!(Refusal::NoBulk.number(), 13);
+    assert_eq!(Refusal::Walk.number(), 18);
 }
 
 // The record under 2 1 is no part of the pair: it stays -16.
@@ -359,6 +360,173 @@ fn a_damaged_image_is_refused_before_the_pair_and_the_delay() {
         assert_eq!(delay(&[], &image, a, b), Err(Refusal::Block));
     }
     assert_eq!(image, before);
+}
+
+// The two keys, an absent one, and with more keys the second tier.
+#[test]
+fn a_quick_lookup_answers_as_the_lookup() {
+    let (block, mut image) = pairs();
+    let compare = |image: &[u8], key: &[u8]| {
+        let quick = quick_lookup(block, image, key);
+        assert_eq!(quick, lookup(block, image, key));
+        assert_eq!(quick_record(block, image, key), record(block, image, key));
+        quick
+    };
+    let found = |offset, tier, slot| {
+        Ok(Located::Found {
+            offset,
+            length: 4,
+            tier,
+            slot,
+        })
+    };
+    let absent = |tier, slot| Ok(Located::Absent { tier, slot });
+    assert_eq!(compare(&image, &[1, 2]), found(236, 1, 1));
+    assert_eq!(compare(&image, &[2, 1]), found(244, 1, 2));
+    assert_eq!(compare(&image, &[3, 1]), absent(1, 3));
+    for key in [[3, 1], [1, 3]] {
+        assert_eq!(store(block, &mut image, &key, &[0; 4]), Ok(()));
+    }
+    assert_eq!(compare(&image, &[1, 3]), found(436, 2, 1));
+    assert_eq!(compare(&image, &[6, 1]), absent(2, 2));
+    for key in [[4, 1], [5, 1]] {
+        assert_eq!(store(block, &mut image, &key, &[]), Ok(()));
+    }
+    assert_eq!(compare(&image, &[6, 1]), absent(2, 0));
+    assert_eq!(quick_record(block, &image, &[5, 1]), Ok(Some(&[][..])));
+}
+
+#[test]
+fn a_quick_ask_answers_as_the_ask() {
+    let (block, mut image) = pairs();
+    for (a, b) in [(32, 1), (3, 4)] {
+        assert_eq!(set_delay(block, &mut image, a, b, -40), Ok(()));
+    }
+    for (a, b) in [(1, 2), (1, 32), (3, 4), (5, 6)] {
+        for (a, b) in [(a, b), (b, a)] {
+            assert_eq!(quick_delay(block, &image, a, b), delay(block, &image, a, b));
+        }
+    }
+    assert_eq!(quick_delay(block, &image, 1, 2), Ok(Some(16)));
+    assert_eq!(quick_delay(block, &image, 2, 1), Ok(Some(-16)));
+    assert_eq!(quick_delay(block, &image, 1, 32), Ok(Some(40)));
+    assert_eq!(quick_delay(block, &image, 5, 6), Ok(None));
+}
+
+/// The number of a lookup.
+fn number(answer: Result<Located, Refusal>) -> u32 {
+    match answer {
+        Ok(Located::Found { .. }) => 0,
+        Ok(Located::Absent { .. }) => 1,
+        Err(refusal) => refusal.number(),
+    }
+}
+
+/// Bytes of the image, by offset.
+type Damage = &'static [(usize, u8)];
+
+// Each damage with the check's number, and with the quick lookups' of 1 2, 2 1 and 3 1. The walk does not meet what stands
+// behind a find, nor what it does not need: bits, the low mark, the higher bits of a slot.
+#[test]
+fn a_quick_lookup_notices_only_what_it_meets() {
+    let cases: [(Damage, u32, [u32; 3]); 11] = [
+        (&[(80, 2)], 5, [0, 0, 1]),
+        (&[(80, 1)], 5, [0, 0, 18]),
+        (&[(80, 3)], 5, [0, 0, 18]),
+        (&[(224, 0)], 7, [0, 0, 1]),
+        (&[(100, 0x11)], 6, [18, 18, 18]),
+        (&[(100, 0x21)], 6, [0, 0, 1]),
+        (&[(235, 0x84), (236, 0)], 6, [18, 18, 18]),
+        (&[(243, 0x84), (244, 0)], 6, [0, 18, 18]),
+        (&[(235, 0x3C)], 6, [0, 0, 1]),
+        (&[(235, 0x3D)], 6, [18, 18, 18]),
+        (&[(96, 2), (108, 2)], 6, [0, 0, 18]),
+    ];
+    for (damage, checked, quick) in cases {
+        let (block, mut image) = pairs();
+        for &(at, byte) in damage {
+            image[at] = byte;
+        }
+        for (key, quick) in [[1, 2], [2, 1], [3, 1]].into_iter().zip(quick) {
+            let answers = (
+                lookup(block, &image, &key),
+                quick_lookup(block, &image, &key),
+            );
+            assert_eq!(
+                (number(answers.0), number(answers.1)),
+                (checked, quick),
+                "{damage:?} {key:?}"
+            );
+        }
+    }
+}
+
+// Five chunks are more than an entry may take, which the walk does not test; the free tier 2 is not in the chain.
+#[test]
+fn what_a_quick_lookup_tells_of_a_damaged_image() {
+    let (block, mut image) = pairs();
+    image[235] = 29;
+    let long = image[236..265].to_vec();
+    assert_eq!(record(block, &image, &[1, 2]), Err(Refusal::Entries));
+    assert_eq!(quick_record(block, &image, &[1, 2]), Ok(Some(&long[..])));
+    assert_eq!(quick_delay(block, &image, 1, 2), Err(Refusal::Delay));
+    image[80] = 2;
+    assert_eq!(
+        quick_lookup(block, &image, &[3, 1]),
+        Ok(Located::Absent { tier: 2, slot: 1 })
+    );
+}
+
+// Tier 2 leads to itself.
+#[test]
+fn a_quick_lookup_ends_on_a_ring_of_tiers() {
+    let (block, mut image) = pairs();
+    for key in [[3, 1], [1, 3]] {
+        assert_eq!(store(block, &mut image, &key, &[0; 4]), Ok(()));
+    }
+    image[360] = 2;
+    assert_eq!(lookup(block, &image, &[1, 3]), Err(Refusal::Chains));
+    assert_eq!(quick_record(block, &image, &[1, 3]), Ok(Some(&[0; 4][..])));
+    assert_eq!(quick_lookup(block, &image, &[6, 1]), Err(Refusal::Walk));
+    assert_eq!(quick_delay(block, &image, 31, 32), Err(Refusal::Walk));
+}
+
+// The block, the frame and the key come before the walk; slot 1 of this image is broken.
+#[test]
+fn quick_refusals_in_their_order() {
+    let (block, mut image) = pairs();
+    let mut field = block.to_vec();
+    field[10] = 3;
+    image[100] = 0x11;
+    for (block, image, first) in [
+        (&block[..70], &image[..], Refusal::Block),
+        (&field, &[], Refusal::Field),
+        (block, &image[..495], Refusal::Frame),
+    ] {
+        assert_eq!(quick_lookup(block, image, &[]), Err(first));
+        assert_eq!(quick_delay(block, image, 0, 0), Err(first));
+    }
+    for key in [&[][..], &[0; 1025]] {
+        assert_eq!(quick_lookup(block, &image, key), Err(Refusal::Key));
+        assert_eq!(quick_record(block, &image, key), Err(Refusal::Key));
+    }
+    assert_eq!(quick_lookup(block, &image, &[0; 1024]), Err(Refusal::Walk));
+    assert_eq!(quick_record(block, &image, &[1, 2]), Err(Refusal::Walk));
+    for (a, b) in [(0, 2), (2, 33), (257, 2), (2, 2)] {
+        assert_eq!(quick_delay(block, &image, a, b), Err(Refusal::Pair));
+    }
+    assert_eq!(quick_delay(block, &image, 2, 1), Err(Refusal::Walk));
+}
+
+#[test]
+fn a_quick_ask_refuses_a_record_that_is_no_delay() {
+    let (block, mut image) = pairs();
+    let most_negative = i32::MIN.to_le_bytes();
+    for record in [&[][..], &[1, 0, 0], &[1, 0, 0, 0, 0], &most_negative] {
+        assert_eq!(store(block, &mut image, &[1, 2], record), Ok(()));
+        assert_eq!(quick_delay(block, &image, 1, 2), Err(Refusal::Delay));
+        assert_eq!(quick_delay(block, &image, 2, 1), Err(Refusal::Delay));
+    }
 }
 
 #[test]

@@ -14,7 +14,7 @@ use Rattle.chains.specs.Chains.{chainsFit?}
 use Rattle.search.specs.Rules.{entriesFit?}
 use Rattle.chunks.specs.Chunks.{chunksFit?}
 use Rattle.image.specs.declared.Stage.{Stage}
-use Rattle.image.specs.declared.Stage.the-variants.{Block, Field, Frame, Chains, Entries, Chunks, Key, Value}
+use Rattle.image.specs.declared.Stage.the-variants.{Block, Field, Frame, Chains, Entries, Chunks, Key, Value, Walk}
 use Rattle.image.specs.declared.Counts.{Counts}
 use Rattle.image.specs.declared.Examined.{Examined}
 use Rattle.image.specs.declared.Examined.the-variants.{Ready, Refused}
@@ -92,6 +92,7 @@ stage-least Entries = omega arith
 stage-least Chunks = omega arith
 stage-least Key = omega arith
 stage-least Value = omega arith
+stage-least Walk = omega arith
 
 -- ---- a key that fits is never refused with 8
 

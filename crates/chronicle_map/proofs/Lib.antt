@@ -16,5 +16,4 @@ pub mod Replacing
 pub mod Viewing
 pub mod Growing
 pub mod Emptying
-pub mod Worked
 pub mod Laws

@@ -22,11 +22,12 @@ ghost use Rattle.image.specs.List.{entry as List·entry};
 ghost use Rattle.chronicle_map.specs.Asked.{aKey, anEntry, asked};
 ghost use Rattle.chronicle_map.specs.Calls.{fromFind, lookup as Calls·lookup, RecordOf, Edited, removeFound, remove as Calls·remove, storeUnless, store as Calls·store, growUnless, grow as Calls·grow};
 
-// Where a record stands: its offset in the image, its length, and the tier and slot of its entry.
+// Where a record stands: its offset in the image, its length, and the tier and slot of its entry. Two fields side by side that a caller's
+// array has side by side too would be copied as one, and that copy would wait until both are stored; so the length stands after the tier.
 pub struct RecordPlace {
     pub offset: usize,
-    pub length: usize,
     pub tier: usize,
+    pub length: usize,
     pub slot: usize,
 }
 

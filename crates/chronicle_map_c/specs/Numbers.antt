@@ -6,6 +6,8 @@ use Rattle.image.specs.Check.{check, verdictNumbers}
 use Rattle.image.specs.List.{entry, listedNumbers}
 use Rattle.edit.specs.declared.Policy.{Policy}
 use Rattle.chronicle_map.specs.Calls.{lookup, lookupNumbers, answerNumber, store, remove, grow}
+use Rattle.quick.specs.Quick.{quickLookup}
+use Rattle.pairs.specs.Quick.{quickDelay}
 use Rattle.pairs.specs.Delays.{delay, Reply, askedReply, setDelay, setNumber}
 
 -- ---- the number that is returned, then those of the out array
@@ -16,12 +18,18 @@ checkAnswer block img = verdictNumbers (check block img)
 abbrev pub lookupAnswer : List ℕ → List ℕ → List ℕ → List ℕ
 lookupAnswer block img key = lookupNumbers (lookup block img key)
 
+abbrev pub quickLookupAnswer : List ℕ → List ℕ → List ℕ → List ℕ
+quickLookupAnswer block img key = lookupNumbers (quickLookup block img key)
+
 abbrev pub entryAnswer : List ℕ → List ℕ → ℕ → List ℕ
 entryAnswer block img n = listedNumbers (entry block img n)
 
 -- the number that is returned, and the delay that is written
 abbrev pub delayAnswer : List ℕ → List ℕ → ℕ → ℕ → Reply
 delayAnswer block img a b = askedReply (delay block img a b)
+
+abbrev pub quickDelayAnswer : List ℕ → List ℕ → ℕ → ℕ → Reply
+quickDelayAnswer block img a b = askedReply (quickDelay block img a b)
 
 -- ---- the number that is returned, and every byte of the image on return
 

@@ -12,9 +12,9 @@ ghost use mathlib.Core.Path.{_≡_};
 ghost use mathlib.Core.List.{_∷_};
 ghost use Rattle.xxh64.specs.Hash.{xxh64 as Hash·xxh64};
 ghost use Rattle.edit.specs.declared.Policy.the-variants.{OnTheSpot, Tight};
-ghost use Rattle.chronicle_map.specs.Calls.{answerNumber};
-ghost use Rattle.pairs.specs.Delays.{Reply, setNumber};
-ghost use Rattle.chronicle_map_c.specs.Numbers.{checkAnswer, lookupAnswer, entryAnswer, delayAnswer, storeAnswer, storeLeaves, removeAnswer, removeLeaves, growAnswer, growLeaves, setDelayAnswer, setDelayLeaves};
+ghost use Rattle.chronicle_map.specs.Calls.{lookupNumbers, answerNumber};
+ghost use Rattle.pairs.specs.Delays.{Reply, askedReply, setNumber};
+ghost use Rattle.chronicle_map_c.specs.Numbers.{checkAnswer, lookupAnswer, quickLookupAnswer, entryAnswer, delayAnswer, quickDelayAnswer, storeAnswer, storeLeaves, removeAnswer, removeLeaves, growAnswer, growLeaves, setDelayAnswer, setDelayLeaves};
 
 fn answer_number(answer: Answer) -> u32
     ensures { λ r. ⌜ r ≡ answerNumber answer ⌝ }
@@ -35,6 +35,59 @@ fn set_number(answer: SetAnswer) -> u32
         SetAnswer::Stored(stored) => answer_number(stored),
         SetAnswer::BadPair => 11,
         SetAnswer::BadDelay => 12,
+    }
+}
+
+// A lookup's number; its other numbers go to the array.
+fn tell_place(located: Located, place: &mut [u64; 4]) -> u32
+    ensures { λ r. ⌜ r ∷ now (place .exit) ≡ lookupNumbers located ⌝ }
+{
+    match located {
+        Located::Found(p) => {
+            *place = [
+                p.offset as u64,
+                p.length as u64,
+                p.tier as u64,
+                p.slot as u64,
+            ];
+            0
+        }
+        Located::Absent(e) => {
+            *place = [0, 0, e.tier as u64, e.slot as u64];
+            1
+        }
+        Located::Refused(stage) => {
+            *place = [0; 4];
+            stage_number(stage)
+        }
+    }
+}
+
+// An ask's number; its delay goes to the caller's, 0 where there is none.
+fn tell_delay(asked: Asked, delay: &mut i32) -> u32
+    ensures { λ r. ⌜ record { number = r; delay = now (delay .exit) } ≡ askedReply asked ⌝ }
+{
+    match asked {
+        Asked::Found(d) => {
+            *delay = d;
+            0
+        }
+        Asked::Absent => {
+            *delay = 0;
+            1
+        }
+        Asked::BadPair => {
+            *delay = 0;
+            11
+        }
+        Asked::BadDelay => {
+            *delay = 0;
+            12
+        }
+        Asked::Refused(stage) => {
+            *delay = 0;
+            stage_number(stage)
+        }
     }
 }
 
@@ -73,25 +126,20 @@ pub extern "C" fn chronicle_map_lookup(
 ) -> u32
     ensures { λ r. ⌜ r ∷ now (place .exit) ≡ lookupAnswer (now (block .entry)) (now (img .entry)) (now (key .entry)) ⌝ }
 {
-    match chronicle_map::lookup(block, img, key) {
-        Located::Found(p) => {
-            *place = [
-                p.offset as u64,
-                p.length as u64,
-                p.tier as u64,
-                p.slot as u64,
-            ];
-            0
-        }
-        Located::Absent(e) => {
-            *place = [0, 0, e.tier as u64, e.slot as u64];
-            1
-        }
-        Located::Refused(stage) => {
-            *place = [0; 4];
-            stage_number(stage)
-        }
-    }
+    tell_place(chronicle_map::lookup(block, img, key), place)
+}
+
+// The same without a check of the whole image: settings, frame and key are tested, and what the walk for the key meets.
+#[no_mangle]
+pub extern "C" fn chronicle_map_quick_lookup(
+    block: &[u8],
+    img: &[u8],
+    key: &[u8],
+    place: &mut [u64; 4],
+) -> u32
+    ensures { λ r. ⌜ r ∷ now (place .exit) ≡ quickLookupAnswer (now (block .entry)) (now (img .entry)) (now (key .entry)) ⌝ }
+{
+    tell_place(quick::quick_lookup(block, img, key), place)
 }
 
 // Stores a record under a key, or replaces the one that is there: on the spot where the new entry takes as many chunks.
@@ -167,28 +215,21 @@ pub extern "C" fn chronicle_map_delay(
 ) -> u32
     ensures { λ r. ⌜ record { number = r; delay = now (delay .exit) } ≡ delayAnswer (now (block .entry)) (now (img .entry)) a b ⌝ }
 {
-    match pairs::delay(block, img, a, b) {
-        Asked::Found(d) => {
-            *delay = d;
-            0
-        }
-        Asked::Absent => {
-            *delay = 0;
-            1
-        }
-        Asked::BadPair => {
-            *delay = 0;
-            11
-        }
-        Asked::BadDelay => {
-            *delay = 0;
-            12
-        }
-        Asked::Refused(stage) => {
-            *delay = 0;
-            stage_number(stage)
-        }
-    }
+    tell_delay(pairs::delay(block, img, a, b), delay)
+}
+
+// The same without a check of the whole image, by the quick lookup.
+#[no_mangle]
+pub extern "C" fn chronicle_map_quick_delay(
+    block: &[u8],
+    img: &[u8],
+    a: u32,
+    b: u32,
+    delay: &mut i32,
+) -> u32
+    ensures { λ r. ⌜ record { number = r; delay = now (delay .exit) } ≡ quickDelayAnswer (now (block .entry)) (now (img .entry)) a b ⌝ }
+{
+    tell_delay(pairs::quick_delay(block, img, a, b), delay)
 }
 
 // Sets the delay between two channels, from the first to the second, and with it the other order's.

@@ -1,8 +1,20 @@
 -- What the functions over lengths and slots ask for. The definitions serve contracts alone.
-use Prim.Native.Nat.{ℕ, _^_, _≤_, _<_}
+use Prim.Native.Nat.{ℕ, _+_, _*_, _^_, _≤_, _<_}
+use mathlib.Core.List.{List}
+use mathlib.Core.Path.{_≡_}
+use lib.ListN.{length, getD}
 use Rattle.settings.specs.declared.Settings.{Settings}
 use Rattle.settings.specs.Rules.{Valid}
 use Rattle.leb128.specs.Leb128.{largestLength}
+
+-- the first n bytes at an offset are those of a key
+abbrev pub Agree : List ℕ → ℕ → List ℕ → ℕ → Type 0
+Agree l at key n = (j : ℕ) → j < n → getD l (at + j) 0 ≡ getD key j 0
+
+-- n eights of bytes at an offset, and as many of a key
+pub record Eights (l : List ℕ) (at : ℕ) (key : List ℕ) (n : ℕ) : Type 0 where
+  pub there : at + 8 * n ≤ length l
+  pub given : 8 * n ≤ length key
 
 -- lengths of a key and a value that can be written
 pub record Lengths (k v : ℕ) : Type 0 where

@@ -5,12 +5,29 @@ use super::Stored;
 use layout::Shape;
 use leb128::Decoded;
 ghost use mathlib.Core.Path.{_≡_};
-ghost use Prim.Native.Nat.{_+_, _≤_};
+ghost use Prim.Native.Nat.{_+_, _*_, _≤_};
 ghost use lib.ListN.{length};
+ghost use Rattle.lists.specs.Decide.{Decides};
 ghost use Rattle.words.specs.Bytes.{cut, same};
 ghost use Rattle.layout.specs.FramedTier.{FramedTier, FramedSlot};
 ghost use Rattle.entries.specs.Stored.{stored as Stored·stored, entryOf};
 ghost use Rattle.entries.specs.Live.{chunkOf, entryAt, liveAt};
+ghost use Rattle.entries.specs.Asking.{Agree, Eights};
+
+// Whether n eights of bytes at an offset are those that a key begins with.
+fn same_eights(img: &[u8], at: usize, n: usize, key: &[u8]) -> bool
+    requires { ⌜ Eights (now img) at (now key) n ⌝ }
+    ensures { λ r. ⌜ Decides r (Agree (now (img .entry)) at (now (key .entry)) (8 * n)) ⌝ }
+{
+    let mut k = 0;
+    while k < n {
+        if words::read_le8(img, at + 8 * k) != words::read_le8(key, 8 * k) {
+            return false;
+        }
+        k += 1;
+    }
+    true
+}
 
 // Whether the n bytes at an offset are a key's.
 pub fn same_key(img: &[u8], at: usize, n: usize, key: &[u8]) -> bool
@@ -20,7 +37,10 @@ pub fn same_key(img: &[u8], at: usize, n: usize, key: &[u8]) -> bool
     if n != key.len() {
         return false;
     }
-    let mut i = 0;
+    if !same_eights(img, at, n / 8, key) {
+        return false;
+    }
+    let mut i = 8 * (n / 8);
     while i < n {
         if img[at + i] != key[i] {
             return false;

@@ -13,7 +13,7 @@ use Rattle.entries.specs.Live.{live}
 use Rattle.search.specs.Rules.{EntriesFit, entriesFit?}
 use Rattle.chunks.specs.Chunks.{ChunksFit, chunksFit?, markedChunks}
 use Rattle.image.specs.declared.Stage.{Stage}
-use Rattle.image.specs.declared.Stage.the-variants.{Block, Field, Frame, Chains, Entries, Chunks, Key, Value}
+use Rattle.image.specs.declared.Stage.the-variants.{Block, Field, Frame, Chains, Entries, Chunks, Key, Value, Walk}
 use Rattle.image.specs.declared.Counts.{Counts}
 use Rattle.image.specs.declared.Outcome.{Outcome}
 use Rattle.image.specs.declared.Outcome.the-variants as outcome
@@ -21,7 +21,7 @@ use Rattle.image.specs.declared.Verdict.{Verdict}
 use Rattle.image.specs.declared.Examined.{Examined}
 use Rattle.image.specs.declared.Examined.the-variants.{Ready, Refused}
 
--- the numbers of document 01
+-- the numbers of the papers
 abbrev pub stageNumber : Stage → ℕ
 stageNumber Block = 2
 stageNumber Field = 3
@@ -31,6 +31,7 @@ stageNumber Entries = 6
 stageNumber Chunks = 7
 stageNumber Key = 8
 stageNumber Value = 9
+stageNumber Walk = 18
 
 unfoldable pub countsOf : Shape → List ℕ → Counts
 countsOf z img =

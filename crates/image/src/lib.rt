@@ -15,7 +15,8 @@ ghost use Rattle.settings.specs.Rules.{Valid};
 ghost use Rattle.layout.specs.Frame.{shapeOf, frameFits?};
 ghost use Rattle.image.specs.Check.{afterFrame, examine as Check·examine, check as Check·check};
 
-// What may be refused, in the order in which it is asked.
+// What may be refused, in the order in which it is asked. The walk is that of a quick lookup, which asks for it in place of chains,
+// entries and chunks, and after the key.
 pub enum Stage {
     Block,
     Field,
@@ -25,6 +26,7 @@ pub enum Stage {
     Chunks,
     Key,
     Value,
+    Walk,
 }
 
 // What the check counts over an accepted image: live entries, marked chunks, chained tiers and free tiers.

@@ -18,6 +18,7 @@ pub fn stage_number(stage: Stage) -> u32
         Stage::Chunks => 7,
         Stage::Key => 8,
         Stage::Value => 9,
+        Stage::Walk => 18,
     }
 }
 

@@ -1,7 +1,7 @@
 -- The two calls' answers, as the code puts them together.
-use Prim.Native.Nat.{ℕ, _+_, _-_, _^_, _<_}
+use Prim.Native.Nat.{ℕ, _+_, _-_, _^_, _≤_, _<_}
 use mathlib.Core.List.{List}
-use mathlib.Core.Path.{_≡_, refl, ap, sym, _∙_}
+use mathlib.Core.Path.{_≡_, refl, ap, sym, _∙_, subst}
 use mathlib.Core.Logic.{_≢_}
 use native.Mathlib.Omega.{arith}
 use lib.ListN.{length, take, drop}
@@ -11,6 +11,7 @@ use mir.Val.{SFits, toZ, ofZ}
 use mir.ValLaws.{toZ-ofZ, toZ-fits}
 use Rattle.lists.proofs.Decides.{choose-no, choose-yes}
 use Rattle.words.specs.Numbers.{le}
+use Rattle.settings.specs.Rules.{largest}
 use Rattle.image.specs.declared.Stage.{Stage}
 use Rattle.image.specs.declared.Counts.{Counts}
 use Rattle.image.specs.declared.Outcome.{Outcome}
@@ -31,6 +32,7 @@ use Rattle.pairs.specs.declared.SetAnswer.{SetAnswer}
 use Rattle.pairs.specs.declared.SetAnswer.the-variants as set
 use Rattle.pairs.specs.Pairs.{ChannelsFit, channelsFit?, pairKey, delayRecord, recordDelay, mostNegative, RecordFits, recordFits?, inOrder}
 use Rattle.pairs.specs.Delays.{fromRecord, fromLocated, askPair, askChecked, delay, unlessRefused, setRecord, setPair, setChecked, setDelay, fromStore}
+use Rattle.pairs.specs.Asking.{Within}
 use Rattle.pairs.proofs.Numbers.{read-most}
 
 -- ---- a stored record
@@ -65,6 +67,38 @@ module _ (a b : ℕ) (r : List ℕ) where
           let is : toZ w32 (ofZ w32 y) ≡ inOrder a b (recordDelay r) = toZ-ofZ w32 y f ∙ ey ∙ ap (inOrder a b) (held ∙ sym own) in
           ap asked.Found is ∙ record-yes (long, λ (q : recordDelay r ≡ mostNegative). n (read-most v high (sym own ∙ q)))
 
+-- ---- what the lookup of the key says, by its cases
+
+module _ (img : List ℕ) (l : Located) where
+  pub within-by : ((p : RecordPlace) → l ≡ looked.Found p → (p .offset + p .length ≤ length img) × (length img ≤ largest)) → Within img l
+  within-by f = by-cases l refl
+    where
+      by-cases : (x : Located) → l ≡ x → Within img x
+      by-cases (looked.Found p) e = f p e
+      by-cases (looked.Absent end) e = tt
+      by-cases (looked.Refused s) e = tt
+
+  pub within-found : Within img l → (p : RecordPlace) → l ≡ looked.Found p → (p .offset + p .length ≤ length img) × (length img ≤ largest)
+  within-found w p e = subst (Within img) e w
+
+  module _ (a b : ℕ) where
+    pub located-refused : (s : Stage) → l ≡ looked.Refused s → asked.Refused s ≡ fromLocated img a b l
+    unfolding fromLocated
+    located-refused s e = sym (ap (fromLocated img a b) e)
+
+    pub located-none : (end : SearchEnd) → l ≡ looked.Absent end → asked.Absent ≡ fromLocated img a b l
+    unfolding fromLocated
+    located-none end e = sym (ap (fromLocated img a b) e)
+
+    pub located-record : (p : RecordPlace) → l ≡ looked.Found p → {r : Asked} {bytes : List ℕ}
+        → bytes ≡ take (p .offset + p .length - p .offset) (drop (p .offset) img) → r ≡ fromRecord a b bytes (recordFits? bytes)
+        → r ≡ fromLocated img a b l
+    unfolding fromLocated recordBytes recordAt recordLength
+    located-record p e eb er =
+        let q : p .offset + p .length - p .offset ≡ p .length = omega arith in
+        let is : _ = eb ∙ ap (λ (k : ℕ). take k (drop (p .offset) img)) q in
+        er ∙ ap (λ (x : List ℕ). fromRecord a b x (recordFits? x)) is ∙ sym (ap (fromLocated img a b) e)
+
 -- ---- asking
 
 module _ (block img : List ℕ) (a b : ℕ) where
@@ -79,35 +113,18 @@ module _ (block img : List ℕ) (a b : ℕ) where
     ask-misfit c e n = sym (choose-no (channelsFit? a b) _ _ n) ∙ ap (askChecked block img a b) (sym e ∙ ap (λ (x : Verdict). x .outcome) ev)
 
   -- where the channels fit, its refusal is the lookup's
-  pub ask-fits : ChannelsFit a b → delay block img a b ≡ fromLocated block img a b (lookup block img (pairKey a b))
+  pub ask-fits : ChannelsFit a b → delay block img a b ≡ fromLocated img a b (lookup block img (pairKey a b))
   unfolding delay askChecked askPair fromLocated
   ask-fits f = by-outcome (check block img .outcome) refl
     where
       by-outcome : (o : Outcome) → check block img .outcome ≡ o
-          → askChecked block img a b o ≡ fromLocated block img a b (lookup block img (pairKey a b))
-      by-outcome (outcome.Refused s) e = ap (fromLocated block img a b) (sym (check-lookup block img s (λ i. record { outcome = e i }) (pairKey a b)))
+          → askChecked block img a b o ≡ fromLocated img a b (lookup block img (pairKey a b))
+      by-outcome (outcome.Refused s) e = ap (fromLocated img a b) (sym (check-lookup block img s (λ i. record { outcome = e i }) (pairKey a b)))
       by-outcome (outcome.Accepted c) e = choose-yes (channelsFit? a b) _ _ f
 
-  module _ (f : ChannelsFit a b) {key : List ℕ} (ek : key ≡ pairKey a b) {l : Located} (el : l ≡ lookup block img key) where
-    from-lookup : {x : Located} → l ≡ x → fromLocated block img a b x ≡ delay block img a b
-    from-lookup e = ap (fromLocated block img a b) (sym e ∙ el ∙ ap (lookup block img) ek) ∙ sym (ask-fits f)
-
-    pub found-refused : (s : Stage) → l ≡ looked.Refused s → asked.Refused s ≡ delay block img a b
-    unfolding fromLocated
-    found-refused s e = from-lookup e
-
-    pub found-none : (end : SearchEnd) → l ≡ looked.Absent end → asked.Absent ≡ delay block img a b
-    unfolding fromLocated
-    found-none end e = from-lookup e
-
-    pub found-record : (p : RecordPlace) → l ≡ looked.Found p → {r : Asked} {bytes : List ℕ}
-        → bytes ≡ take (p .offset + p .length - p .offset) (drop (p .offset) img) → r ≡ fromRecord a b bytes (recordFits? bytes)
-        → r ≡ delay block img a b
-    unfolding fromLocated recordBytes recordAt recordLength
-    found-record p e eb er =
-        let q : p .offset + p .length - p .offset ≡ p .length = omega arith in
-        let is : _ = eb ∙ ap (λ (k : ℕ). take k (drop (p .offset) img)) q in
-        er ∙ ap (λ (x : List ℕ). fromRecord a b x (recordFits? x)) is ∙ from-lookup e
+  pub ask-looked : ChannelsFit a b → {key : List ℕ} → key ≡ pairKey a b → {l : Located} → l ≡ lookup block img key → {r : Asked}
+      → r ≡ fromLocated img a b l → r ≡ delay block img a b
+  ask-looked f ek el er = er ∙ ap (fromLocated img a b) (el ∙ ap (lookup block img) ek) ∙ sym (ask-fits f)
 
 -- ---- setting
 

@@ -6,3 +6,4 @@ pub mod Refusing
 pub mod Mapped
 pub mod Signs
 pub mod Worked
+pub mod Quick

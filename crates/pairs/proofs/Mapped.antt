@@ -44,11 +44,11 @@ module _ (block img : List ℕ) (bytes : Bytes img) (accepted : Accepted block i
   ask-map a b f = ask-fits block img a b f ∙ by-get (mapGet (mapOf block img) (pairKey a b)) refl
     where
       by-get : (o : Option Pair) → mapGet (mapOf block img) (pairKey a b) ≡ o
-          → fromLocated block img a b (lookup block img (pairKey a b)) ≡ fromMap a b o
-      by-get none g = ap (fromLocated block img a b) (lookup-none block img bytes accepted (pairKey a b) (key-fits a b _) g)
+          → fromLocated img a b (lookup block img (pairKey a b)) ≡ fromMap a b o
+      by-get none g = ap (fromLocated img a b) (lookup-none block img bytes accepted (pairKey a b) (key-fits a b _) g)
       by-get (some p) g =
           let l : Looked block img (pairKey a b) p = lookup-some block img bytes accepted (pairKey a b) p g in
-          ap (fromLocated block img a b) (l .found) ∙ ap (λ (r : List ℕ). fromRecord a b r (recordFits? r)) (l .bytes)
+          ap (fromLocated img a b) (l .found) ∙ ap (λ (r : List ℕ). fromRecord a b r (recordFits? r)) (l .bytes)
 
 -- ---- a set
 

@@ -77,7 +77,7 @@ module _ (block img : List ℕ) where
     record-asked r (yes _) = ask-store 0 (omega arith) (omega arith)
 
     looked-asked : (l : Located) → numberOf (lookupNumbers l) < 9 → numberOf (lookupNumbers l) ≢ 8
-        → IsAskNumber (askedReply (fromLocated block img a b l) .number)
+        → IsAskNumber (askedReply (fromLocated img a b l) .number)
     unfolding fromLocated
     looked-asked (looked.Refused s) h ne = ask-store (stageNumber s) h ne
     looked-asked (looked.Absent e) h ne = ask-store 1 h ne
@@ -119,7 +119,7 @@ module _ (block img : List ℕ) where
 
 -- ---- what a refusal leaves
 
-ask-refused : (x : Asked) → askedReply x .number ≢ 0 → askedReply x .delay ≡ pos 0
+pub ask-refused : (x : Asked) → askedReply x .number ≢ 0 → askedReply x .delay ≡ pos 0
 ask-refused (asked.Found d) ne = absurd (ne refl)
 ask-refused asked.Absent ne = refl
 ask-refused asked.BadPair ne = refl

@@ -25,15 +25,16 @@ use Rattle.pairs.specs.Pairs.{ChannelsFit, channelsFit?, pairKey, delayR
 unfoldable pub fromRecord : (a b : ℕ) (r : List ℕ) → Dec (RecordFits r) → Asked
 fromRecord a b r d = choose d (λ _. asked.BadDelay) (λ _. asked.Found (inOrder a b (recordDelay r)))
 
-module _ (block img : List ℕ) (a b : ℕ) where
-  unfoldable pub fromLocated : Located → Asked
-  fromLocated (looked.Refused s) = asked.Refused s
-  fromLocated (looked.Absent e) = asked.Absent
-  fromLocated (looked.Found p) = fromRecord a b (recordBytes img (looked.Found p)) (recordFits? (recordBytes img (looked.Found p)))
+-- what the lookup of the pair's key says of the pair
+unfoldable pub fromLocated : List ℕ → ℕ → ℕ → Located → Asked
+fromLocated img a b (looked.Refused s) = asked.Refused s
+fromLocated img a b (looked.Absent e) = asked.Absent
+fromLocated img a b (looked.Found p) = fromRecord a b (recordBytes img (looked.Found p)) (recordFits? (recordBytes img (looked.Found p)))
 
+module _ (block img : List ℕ) (a b : ℕ) where
   -- 11
   unfoldable pub askPair : Dec (ChannelsFit a b) → Asked
-  askPair f = choose f (λ _. asked.BadPair) (λ _. fromLocated (lookup block img (pairKey a b)))
+  askPair f = choose f (λ _. asked.BadPair) (λ _. fromLocated img a b (lookup block img (pairKey a b)))
 
   -- 2 to 7
   unfoldable pub askChecked : Outcome → Asked

@@ -2,3 +2,5 @@
 pub mod Pairs
 pub mod Delays
 pub mod History
+pub mod Quick
+pub mod Asking

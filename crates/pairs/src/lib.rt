@@ -3,6 +3,7 @@ use chronicle_map::Answer;
 use chronicle_map::Located;
 use image::Outcome;
 use image::Stage;
+use quick::Opened;
 ghost use mathlib.Core.Path.{_≡_};
 ghost use mathlib.Core.Logic.{_≢_};
 ghost use Prim.Native.Nat.{_^_, _<_};
@@ -11,7 +12,9 @@ ghost use mir.Val.{toZ, ofZ};
 ghost use Rattle.lists.specs.Decide.{Decides};
 ghost use Rattle.image.specs.Check.{check};
 ghost use Rattle.pairs.specs.Pairs.{IsChannel, ChannelsFit, pairKey, delayRecord, mostNegative, recordFits?, inOrder};
-ghost use Rattle.pairs.specs.Delays.{fromRecord, delay as Delays·delay, unlessRefused, Setting, setDelay};
+ghost use Rattle.pairs.specs.Delays.{fromRecord, fromLocated, delay as Delays·delay, unlessRefused, Setting, setDelay};
+ghost use Rattle.pairs.specs.Quick.{quickDelay};
+ghost use Rattle.pairs.specs.Asking.{Within};
 
 // An ask's answer: the delay in microseconds; none; 11; 12; a refusal of the store.
 pub enum Asked {
@@ -135,6 +138,22 @@ fn from_record(a: u32, b: u32, bytes: &[u8]) -> Asked
     Asked::Found(in_order(a, b, to_signed(v)))
 }
 
+// The answer that the lookup of the pair's key gives.
+fn from_located(img: &[u8], a: u32, b: u32, located: Located) -> Asked
+    requires { ⌜ Within (now img) located ⌝ }
+    ensures { λ r. ⌜ r ≡ fromLocated (now (img .entry)) a b located ⌝ }
+{
+    match located {
+        Located::Refused(stage) => Asked::Refused(stage),
+        Located::Absent(_) => Asked::Absent,
+        Located::Found(p) => {
+            let from = p.offset;
+            let to = p.offset + p.length;
+            from_record(a, b, &img[from..to])
+        }
+    }
+}
+
 // The delay from the first channel to the second.
 pub fn delay(block: &[u8], img: &[u8], a: u32, b: u32) -> Asked
     ensures { λ r. ⌜ r ≡ Delays·delay (now (block .entry)) (now (img .entry)) a b ⌝ }
@@ -148,15 +167,21 @@ pub fn delay(block: &[u8], img: &[u8], a: u32, b: u32) -> Asked
         };
     }
     let key = pair_key(a, b);
-    match chronicle_map::lookup(block, img, &key) {
-        Located::Refused(stage) => Asked::Refused(stage),
-        Located::Absent(_) => Asked::Absent,
-        Located::Found(p) => {
-            let from = p.offset;
-            let to = p.offset + p.length;
-            from_record(a, b, &img[from..to])
-        }
+    from_located(img, a, b, chronicle_map::lookup(block, img, &key))
+}
+
+// The same without a check of the whole image: by the quick lookup.
+pub fn quick_delay(block: &[u8], img: &[u8], a: u32, b: u32) -> Asked
+    ensures { λ r. ⌜ r ≡ quickDelay (now (block .entry)) (now (img .entry)) a b ⌝ }
+{
+    if !channels_fit(a, b) {
+        return match quick::open_image(block, img) {
+            Opened::Refused(stage) => Asked::Refused(stage),
+            Opened::Ready(_) => Asked::BadPair,
+        };
     }
+    let key = pair_key(a, b);
+    from_located(img, a, b, quick::quick_lookup(block, img, &key))
 }
 
 // The check's refusal, or else the answer that is given.

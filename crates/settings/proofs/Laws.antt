@@ -1,19 +1,15 @@
 -- Laws of the settings block: what is accepted, and what the rules bound.
-use Prim.Native.Nat.{ℕ, suc, _*_, _^_, _≤_, _<_}
+use Prim.Native.Nat.{ℕ, _*_, _≤_}
 use mathlib.Core.List.{List}
-use mathlib.Core.Path.{_≡_, refl, sym, _∙_}
+use mathlib.Core.Path.{_≡_, sym, _∙_}
 use mathlib.Core.Logic.{⊎-elim}
 use native.Mathlib.Omega.{arith}
-use native.Mathlib.Nat.{pow-suc, mul-le-mul}
-use lib.Pow.{pow-mono, pow-pos}
-use lib.Dec.{eqb}
-use Rattle.lists.specs.Cases.{lt-or, same-or}
-use Rattle.lists.specs.Decide.{Decides}
-use Rattle.lists.proofs.Decides.{decides-eq, choose-by, choose-no, choose-yes}
+use native.Mathlib.Nat.{mul-le-mul}
+use Rattle.lists.proofs.Decides.{choose-by, choose-no, choose-yes}
 use Rattle.settings.specs.declared.Settings.{Settings}
 use Rattle.settings.specs.declared.Parsed.{Parsed}
 use Rattle.settings.specs.declared.Parsed.the-variants.{Accepted, BadBlock, BadField}
-use Rattle.settings.specs.Rules.{PowerOfTwo, SlotSize, Valid, largest}
+use Rattle.settings.specs.Rules.{SlotSize, Valid, largest}
 use Rattle.settings.specs.Decide.{valid?}
 use Rattle.settings.specs.Block.{BlockFits, blockFits?, settingsOf, parse}
 
@@ -79,38 +75,3 @@ pub record NoneLarger (st : Settings) : Type 0 where
 -- no field is larger than 16,777,216
 pub none-larger : (st : Settings) → Valid st → NoneLarger st
 none-larger st v = omega (arith, slotSize-le st (v .slotSize) .1)
-
--- ---- the loop that doubles p until it reaches n
-
-pub record Doubling (n p : ℕ) : Type 0 where
-  pub k : ℕ
-  pub small : k ≤ 13
-  pub is : p ≡ 2 ^ k
-  pub below : (j : ℕ) → j < k → 2 ^ j < n
-
-pub doubling-starts : (n : ℕ) → Doubling n 1
-doubling-starts n = record { k = 0; small = omega arith; is = refl; below = λ j h. absurd (omega arith) }
-
-pub doubling-turns : {n p : ℕ} → Doubling n p → n ≤ 4096 → p < n → Doubling n (p * 2)
-doubling-turns {n} {p} d small h =
-    record {
-      k = suc (d .k);
-      small =
-          ⊎-elim (λ (a : d .k < 13). omega arith) (λ (a : 13 ≤ d .k). absurd (omega (arith, pow-mono {i = 13} {j = d .k} a, d .is)))
-          (lt-or (d .k) 13);
-      is = rw (pow-suc, d .is);
-      below = λ j a. ⊎-elim (λ (e : j ≡ d .k). rw (e, ← d .is) h) (λ e. d .below j (omega arith)) (same-or j (d .k));
-    }
-
-pub doubling-pos : {n p : ℕ} → Doubling n p → 0 < p
-doubling-pos {n} {p} d = rw (d .is) (pow-pos (d .k))
-
-pub doubling-ends : {n p : ℕ} → Doubling n p → n ≤ p → Decides (eqb p n) (PowerOfTwo n)
-doubling-ends {n} {p} d h =
-    decides-eq p n
-    (λ e. (d .k, (omega (arith, d .small), sym e ∙ d .is)))
-    (λ q.
-    ⊎-elim
-    (λ (a : q .0 < d .k). absurd (omega (arith, d .below (q .0) a, q .1 .1)))
-    (λ (a : d .k ≤ q .0). omega (arith, pow-mono a, q .1 .1, d .is))
-    (lt-or (q .0) (d .k)))

@@ -4,7 +4,7 @@ ghost use Prim.Native.Nat.{_+_, _*_, _≤_};
 ghost use lib.ListN.{length};
 ghost use Rattle.lists.specs.Decide.{Decides};
 ghost use Rattle.settings.specs.Versions.{headSize, leastFields, mostFields, blockSize, fieldsOf};
-ghost use Rattle.settings.specs.Rules.{mostTierSlots, PowerOfTwo, PartsFit, Valid, GlobalAt, Segments, HeaderSize, SlotSize, Slots, KeyBits, ChunkBits};
+ghost use Rattle.settings.specs.Rules.{mostTierSlots, Between, PowerOfTwo, PartsFit, Valid, GlobalAt, Segments, HeaderSize, SlotSize, Slots, KeyBits, ChunkBits};
 ghost use Rattle.settings.specs.Rules.{LookupSize, FreeListSize, InnerOffset, Chunks, ChunkSize, TierSize, BulkInner, BulkTiers, BulkSize, MostChunks};
 ghost use Rattle.settings.specs.Block.{BlockFits, field as Block·field, settingsOf, parse as Block·parse};
 
@@ -125,15 +125,12 @@ fn settings_of(block: &[u8]) -> Settings
     }
 }
 
+// Whether n is the power of two of its highest bit: every call tests settings, and a loop would take a step for each bit.
 fn power_of_two(n: usize) -> bool
-    requires { ⌜ n ≤ mostTierSlots ⌝ }
+    requires { ⌜ Between 1 mostTierSlots n ⌝ }
     ensures { λ r. ⌜ Decides r (PowerOfTwo n) ⌝ }
 {
-    let mut p = 1;
-    while p < n {
-        p = p * 2;
-    }
-    p == n
+    1usize << (63 - u64::leading_zeros(n as u64) as usize) == n
 }
 
 fn counts_fit(st: Settings) -> bool

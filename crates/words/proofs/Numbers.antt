@@ -47,6 +47,30 @@ unfolding le
 le-ext l l′ at zero h = refl
 le-ext l l′ at (suc n) h = rw (h at (omega arith) (omega arith), le-ext l l′ (suc at) n (λ i a b. h i (omega arith) (omega arith)))
 
+-- the same bytes at two places give the same number, and bytes are told by it
+pub le-same : (l l′ : List ℕ) (a b n : ℕ) → ((j : ℕ) → j < n → getD l (a + j) 0 ≡ getD l′ (b + j) 0) → le l a n ≡ le l′ b n
+unfolding le
+le-same l l′ a b zero h = refl
+le-same l l′ a b (suc n) h =
+    let first : getD l a 0 ≡ getD l′ b 0 = rw (add-zero, add-zero) at (h 0 (omega arith)) in
+    let others : le l (suc a) n ≡ le l′ (suc b) n = le-same l l′ (suc a) (suc b) n later in
+    rw (first, others)
+  where
+    later : (j : ℕ) → j < n → getD l (suc a + j) 0 ≡ getD l′ (suc b + j) 0
+    later j k =
+        let p : suc a + j ≡ a + suc j = omega arith in
+        let q : suc b + j ≡ b + suc j = omega arith in
+        rw (p, q) (h (suc j) (omega arith))
+
+pub le-inj : (l l′ : List ℕ) (a b n : ℕ) → Bytes l → Bytes l′ → le l a n ≡ le l′ b n → (j : ℕ) → j < n → getD l (a + j) 0 ≡ getD l′ (b + j) 0
+unfolding le
+le-inj l l′ a b zero bl bm e j h = absurd (omega arith)
+le-inj l l′ a b (suc n) bl bm e zero h = rw (add-zero, add-zero) (omega (arith, e, bl a, bm b))
+le-inj l l′ a b (suc n) bl bm e (suc j) h =
+    let p : a + suc j ≡ suc a + j = omega arith in
+    let q : b + suc j ≡ suc b + j = omega arith in
+    rw (p, q) (le-inj l l′ (suc a) (suc b) n bl bm (omega (arith, e, bl a, bm b)) j (omega arith))
+
 pub le-putLe-out : (l : List ℕ) (at n v b m : ℕ) → Apart at n b m → le (putLe l at n v) b m ≡ le l b m
 le-putLe-out l at n v b m o =
     le-ext _ _ b m

@@ -1,4 +1,7 @@
 //! Ratios of the library's times to a baseline's, measured in one run: both sides by turns, the best of many rounds.
+#[cfg(feature = "lmdb")]
+mod lmdb;
+mod quick;
 mod store;
 
 use std::hint::black_box;
@@ -190,4 +193,5 @@ fn main() {
         grows(&s, size);
     }
     growth();
+    quick::tables();
 }

@@ -21,14 +21,20 @@ pub struct Store {
 const KEY_BITS: usize = 20;
 const SLOT: usize = 4;
 const HEADER: usize = 64;
-const RECORD: [u8; 4] = [16, 0, 0, 0];
+pub const RECORD: [u8; 4] = [16, 0, 0, 0];
 
 fn put(image: &mut [u8], at: usize, width: usize, v: u64) {
     image[at..at + width].copy_from_slice(&v.to_le_bytes()[..width]);
 }
 
-/// One extra tier is free, so that a store has somewhere to go.
+/// Every segment has as many entries as the plan says.
 pub fn store(p: Plan) -> Store {
+    store_of(p, p.segments * p.entries)
+}
+
+/// So many entries in all, and of a segment no more than the plan says. One extra tier is free, so that a store has somewhere to go.
+pub fn store_of(p: Plan, total: usize) -> Store {
+    assert!(total <= p.segments * p.entries);
     let list = p.chunks.div_ceil(64) * 8;
     let tier = p.slots * SLOT + 64 + list + p.chunks * p.chunk_size;
     let fields = [
@@ -49,7 +55,7 @@ pub fn store(p: Plan) -> Store {
     for g in 0..p.segments {
         put(&mut s.image, mains + g * tier + p.slots * SLOT + 24, 4, g as u64);
     }
-    fill(&mut s, p, mains, tier);
+    fill(&mut s, p, total, mains, tier);
     s
 }
 
@@ -78,15 +84,15 @@ fn place(image: &mut [u8], p: Plan, base: usize, chunk: usize, key: &[u8]) {
     image[at..at + entry.len()].copy_from_slice(&entry);
 }
 
-/// The n-th of many keys of 8 bytes.
-fn key(n: u64) -> [u8; 8] {
+/// The n-th of many keys of 8 bytes, no two of them alike.
+pub fn key(n: u64) -> [u8; 8] {
     n.wrapping_mul(0x9E37_79B9_7F4A_7C15).to_le_bytes()
 }
 
-fn fill(s: &mut Store, p: Plan, mains: usize, tier: usize) {
+fn fill(s: &mut Store, p: Plan, total: usize, mains: usize, tier: usize) {
     let mut counts = vec![0usize; p.segments];
     let mut x = 0u64;
-    while s.keys.len() < p.segments * p.entries {
+    while s.keys.len() < total {
         x += 1;
         let key = key(x);
         let segment = parts(p, &key).0;

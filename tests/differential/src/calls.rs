@@ -7,6 +7,7 @@ use crate::damage::Verdict;
 use crate::draw;
 use crate::kinds::Kind;
 use crate::plan::Plan;
+use crate::quick;
 use crate::rng::Rng;
 
 /// Every call with good and bad keys and values, on any image.
@@ -24,6 +25,7 @@ pub fn all_calls(
         return Err(format!("check: both answer {number}, meant was {expected}"));
     }
     let mut plan = plan.clone();
+    quick::calls(&plan, &keys[..keys.len().min(8)], pair, number)?;
     for _ in 0..2 {
         pair.lookup(&draw::offered_key(rng, &plan, keys))?;
         both_stores(rng, &plan, keys, pair)?;

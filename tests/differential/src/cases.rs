@@ -13,6 +13,7 @@ use crate::empty_tiers::WentHome;
 use crate::history::History;
 use crate::model::Model;
 use crate::plan::Plan;
+use crate::quick;
 use crate::rng::Rng;
 use crate::settings::Size;
 use crate::tally::Tally;
@@ -21,7 +22,9 @@ pub fn run(rng: &mut Rng, tally: &mut Tally) -> Outcome<()> {
     hashes(rng, tally)?;
     match rng.below(1000) {
         0..330 => history(rng, tally),
-        330..800 => damaged(rng, tally),
+        330..740 => damaged(rng, tally),
+        740..790 => quick::walked(rng, tally),
+        790..800 => quick::framed(rng, tally),
         800..900 => bad_block(rng, tally),
         900..970 => flipped(rng, tally),
         970..995 => raw(rng, tally),
@@ -47,7 +50,7 @@ fn scene(rng: &mut Rng) -> (Plan, Vec<Vec<u8>>, Model) {
     scene_of(rng, plan)
 }
 
-fn scene_of(rng: &mut Rng, plan: Plan) -> (Plan, Vec<Vec<u8>>, Model) {
+pub fn scene_of(rng: &mut Rng, plan: Plan) -> (Plan, Vec<Vec<u8>>, Model) {
     let count = match rng.below(10) {
         0..6 => rng.between(2, 12),
         6..9 => rng.between(8, 40),

@@ -2,6 +2,7 @@
 //! with every number and every byte compared afterwards.
 
 mod copies;
+mod quick;
 
 use crate::kinds::Kind;
 use crate::subject;
@@ -63,6 +64,8 @@ impl<'a> Pair<'a> {
         if ours.0 > 1 && ours.1 != [0; 4] {
             return Err(format!("lookup: {ours:?}, but a refusal has zeros"));
         }
+        let quick = self.quick_lookup(key)?;
+        quick::as_checked("lookup", ours, quick)?;
         self.settle(1, ours.0)?;
         Ok(ours)
     }
@@ -100,6 +103,8 @@ impl<'a> Pair<'a> {
         let ours = reference::delay(&self.block, &self.ours, a, b);
         let theirs = subject::delay(&self.block, self.their_image(), a, b);
         same(&format!("delay of {a} {b}"), ours, theirs)?;
+        let quick = self.quick_delay(a, b)?;
+        quick::as_checked("delay", ours, quick)?;
         self.settle(6, ours.0)?;
         Ok(ours)
     }
@@ -143,14 +148,15 @@ impl<'a> Pair<'a> {
     /// guards as they were.
     fn settle(&mut self, call: usize, number: u32) -> Outcome<()> {
         self.tally.note(call, number)?;
-        same_bytes(CALLS[call].0, &self.ours, self.their_image())?;
+        self.same_images(CALLS[call].0)
+    }
+
+    pub fn same_images(&self, what: &str) -> Outcome<()> {
+        same_bytes(what, &self.ours, self.their_image())?;
         let (front, rest) = self.theirs.split_at(GUARD);
         let back = &rest[rest.len() - GUARD..];
         if front.iter().chain(back).any(|&byte| byte != GUARD_BYTE) {
-            return Err(format!(
-                "{}: bytes around the image are changed",
-                CALLS[call].0
-            ));
+            return Err(format!("{what}: bytes around the image are changed"));
         }
         Ok(())
     }

@@ -8,6 +8,9 @@ mod chains;
 mod chunks;
 mod frame;
 mod slots;
+pub mod walk;
+
+pub use walk::WALK_DAMAGES;
 
 use crate::model::Model;
 use crate::render::{get, put};
@@ -26,6 +29,9 @@ pub struct Scene<'a> {
 }
 
 pub type Damage = fn(&mut Scene) -> Option<Verdict>;
+
+/// So many come first that damage the frame.
+pub const FRAME_DAMAGES: usize = 5;
 
 pub const DAMAGES: [(&str, Damage); 29] = [
     ("store size", frame::store_size),

@@ -3,6 +3,7 @@
 mod bulks;
 mod kinds;
 mod pairs;
+mod quick;
 mod removals;
 mod stores;
 
@@ -38,7 +39,7 @@ impl History<'_, '_> {
         self.totals()?;
         let mut stores = 60;
         let pair_calls = if self.has_pairs() { 40 } else { 0 };
-        for _ in 0..steps {
+        for step in 0..steps {
             if self.rng.percent(4) {
                 stores = *self.rng.pick(&[20, 40, 60, 90]);
             }
@@ -51,6 +52,7 @@ impl History<'_, '_> {
                 _ if self.rng.percent(stores) => self.store()?,
                 _ => self.remove()?,
             }
+            self.quick_after(step)?;
         }
         self.totals()?;
         self.all_records()?;

@@ -23,6 +23,7 @@ mod model;
 mod on_the_spot;
 mod oracle;
 mod plan;
+mod quick;
 mod render;
 mod rng;
 mod search_ends;

@@ -1,8 +1,12 @@
 //! Settings, and where they put things in an image. Written apart from the
 //! reference, so that an error in its addresses shows too.
 
+use crate::render::get;
+
 /// The most tiers of an image.
 pub const MOST_TIERS: usize = 1024;
+/// The most bytes of an image.
+pub const MOST_BYTES: usize = 1 << 24;
 
 #[derive(Clone, Debug, Default)]
 pub struct Plan {
@@ -74,6 +78,21 @@ impl Plan {
 
     pub fn bulks_start(&self) -> usize {
         self.headers + self.segments * (self.header_size + self.tier_size)
+    }
+
+    /// The frame of an image is the plan's.
+    pub fn frames(&self, image: &[u8]) -> bool {
+        let fields = [
+            (8, 3, self.bulks),
+            (21, 4, self.headers),
+            (25, 8, self.store_size()),
+        ];
+        let mut fields = fields.into_iter();
+        (self.store_size()..=MOST_BYTES).contains(&image.len())
+            && self.tiers() <= MOST_TIERS
+            && fields.all(|(at, width, number)| {
+                get(image, self.global_state + at, width) == number as u64
+            })
     }
 
     /// The bytes that an image of some length lacks for one bulk more, and

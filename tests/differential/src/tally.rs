@@ -5,16 +5,17 @@ use std::collections::BTreeMap;
 use crate::bulks;
 use crate::channels;
 use crate::compare::Outcome;
-use crate::damage::DAMAGES;
+use crate::damage::{DAMAGES, WALK_DAMAGES};
 use crate::defects::DEFECTS;
 use crate::empty_tiers;
 use crate::lengths;
 use crate::low_marks;
 use crate::on_the_spot;
+use crate::quick;
 use crate::search_ends;
 
 /// The calls, and the numbers that each may answer.
-pub const CALLS: [(&str, &[u32]); 9] = [
+pub const CALLS: [(&str, &[u32]); 11] = [
     ("check", &[0, 2, 3, 4, 5, 6, 7]),
     ("lookup", &[0, 1, 2, 3, 4, 5, 6, 7, 8]),
     ("store", &[0, 2, 3, 4, 5, 6, 7, 8, 9, 10]),
@@ -24,8 +25,12 @@ pub const CALLS: [(&str, &[u32]); 9] = [
     ("delay", &[0, 1, 2, 3, 4, 5, 6, 7, 11, 12]),
     ("set_delay", &[0, 2, 3, 4, 5, 6, 7, 9, 10, 11, 12]),
     ("grow", &[0, 2, 3, 4, 5, 6, 7, 13]),
+    ("quick_lookup", &[0, 1, 2, 3, 4, 8, 18]),
+    ("quick_delay", &[0, 1, 2, 3, 4, 11, 12, 18]),
 ];
-const NUMBERS: usize = 14;
+pub const QUICK_LOOKUP: usize = 9;
+pub const QUICK_DELAY: usize = 10;
+const NUMBERS: usize = 19;
 
 #[derive(Default)]
 pub struct Tally {
@@ -35,7 +40,8 @@ pub struct Tally {
     /// How often each planned fault was made.
     pub faults: BTreeMap<&'static str, u64>,
     /// How often what is planned for lengths, low marks, searches, the kinds
-    /// of store, further bulks, empty tiers and the pair calls came up.
+    /// of store, further bulks, empty tiers, the pair calls and the quick ones
+    /// came up.
     pub met: BTreeMap<String, u64>,
 }
 
@@ -58,6 +64,7 @@ impl Tally {
             absent.map(move |number| format!("number {number} of {name}"))
         });
         let damages = DAMAGES.iter().map(|(name, _)| *name);
+        let damages = damages.chain(WALK_DAMAGES.iter().map(|(name, _)| *name));
         let faults = damages.chain(DEFECTS.iter().map(|(name, _)| *name));
         let faults = faults.filter(|name| !self.faults.contains_key(name));
         let planned = channels::planned().into_iter();
@@ -67,6 +74,7 @@ impl Tally {
             .chain(lengths::planned())
             .chain(low_marks::planned())
             .chain(on_the_spot::planned())
+            .chain(quick::planned())
             .chain(search_ends::planned());
         let planned = planned.filter(|name| !self.met.contains_key(name));
         numbers
@@ -78,14 +86,14 @@ impl Tally {
     pub fn print(&self) {
         let titles: String = CALLS
             .iter()
-            .map(|(call, _)| format!("{call:>12}"))
+            .map(|(call, _)| format!("{call:>13}"))
             .collect();
         println!("number{titles}");
-        for number in 0..NUMBERS {
+        for number in (0..NUMBERS).filter(|&number| is_answered(number as u32)) {
             let line: String = self
                 .counts
                 .iter()
-                .map(|counts| format!("{:>12}", counts[number]))
+                .map(|counts| format!("{:>13}", counts[number]))
                 .collect();
             println!("{number:>6}{line}");
         }
@@ -97,6 +105,11 @@ impl Tally {
             println!("{count:>6} times {what}");
         }
     }
+}
+
+/// Some call may answer it.
+fn is_answered(number: u32) -> bool {
+    CALLS.iter().any(|(_, numbers)| numbers.contains(&number))
 }
 
 /// Those of the planned events that came up, by their names.

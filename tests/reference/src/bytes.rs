@@ -9,6 +9,7 @@ pub fn u64_at(bytes: &[u8], at: usize) -> u64 {
 }
 
 /// A number of `width` bytes, at most 8.
+#[inline(always)]
 pub fn uint_at(bytes: &[u8], at: usize, width: usize) -> u64 {
     let mut wide = [0; 8];
     wide[..width].copy_from_slice(&bytes[at..at + width]);

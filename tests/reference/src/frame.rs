@@ -28,6 +28,7 @@ pub struct Frame {
 }
 
 impl Frame {
+    #[inline(always)]
     pub fn read(settings: Settings, image: &[u8]) -> Answer<Frame> {
         let state = settings.global_state;
         if image.len() < state + STATE_SIZE || image.len() > MOST_IMAGE_BYTES {

@@ -2,9 +2,10 @@
 //! store (on the spot or tight), remove, list, one more bulk and delays by
 //! pair, over a settings block and an image of any bytes.
 //!
-//! Every call settles the whole image first (see [`check`]) and works on it
-//! afterwards without a further doubt: what the check has passed is indexed
-//! directly, and no offset can fall outside.
+//! Every call but the two quick ones settles the whole image first (see
+//! [`check`]) and works on it afterwards without a further doubt: what the
+//! check has passed is indexed directly, and no offset can fall outside. The
+//! quick ones settle the frame and test the rest as they come to it.
 
 #![forbid(unsafe_code)]
 
@@ -18,6 +19,7 @@ mod grow;
 mod hash;
 mod leb128;
 mod pairs;
+mod quick;
 mod record;
 mod search;
 mod settings;
@@ -44,6 +46,7 @@ mod number {
     pub const PAIR: u32 = 11;
     pub const DELAY: u32 = 12;
     pub const BULK: u32 = 13;
+    pub const WALK: u32 = 18;
 }
 
 /// A number from [`number`] as the failure.
@@ -59,6 +62,12 @@ pub fn check(block: &[u8], image: &[u8]) -> (u32, [u64; 4]) {
 /// search ended.
 pub fn lookup(block: &[u8], image: &[u8], key: &[u8]) -> (u32, [u64; 4]) {
     search::lookup(block, image, key).unwrap_or_else(|number| (number, [0; 4]))
+}
+
+/// The same without the check of the whole image: the walk along the key's
+/// chain alone is tested. On an accepted image it answers as [`lookup`].
+pub fn quick_lookup(block: &[u8], image: &[u8], key: &[u8]) -> (u32, [u64; 4]) {
+    quick::lookup(block, image, key).unwrap_or_else(|number| (number, [0; 4]))
 }
 
 /// Puts `value` under `key`. An earlier entry that takes as many chunks is
@@ -96,10 +105,12 @@ pub fn entry(block: &[u8], image: &[u8], n: u64) -> (u32, [u64; 7]) {
 
 /// The delay of channels `a` and `b`, in that order.
 pub fn delay(block: &[u8], image: &[u8], a: u32, b: u32) -> (u32, i32) {
-    match pairs::ask(block, image, a, b) {
-        Ok(delay) => (0, delay),
-        Err(number) => (number, 0),
-    }
+    asked(pairs::ask(block, image, a, b))
+}
+
+/// The same by a quick lookup. On an accepted image it answers as [`delay`].
+pub fn quick_delay(block: &[u8], image: &[u8], a: u32, b: u32) -> (u32, i32) {
+    asked(pairs::quick_ask(block, image, a, b))
 }
 
 /// Sets the delay of channels `a` and `b`, in that order.
@@ -110,6 +121,13 @@ pub fn set_delay(block: &[u8], image: &mut [u8], a: u32, b: u32, delay: i32) -> 
 /// XXH64 with seed 0.
 pub fn xxh64(bytes: &[u8]) -> u64 {
     hash::xxh64(bytes)
+}
+
+fn asked(answer: Answer<i32>) -> (u32, i32) {
+    match answer {
+        Ok(delay) => (0, delay),
+        Err(number) => (number, 0),
+    }
 }
 
 fn numbers<const COUNT: usize>(answer: Answer<[u64; COUNT]>) -> (u32, [u64; COUNT]) {

@@ -6,6 +6,9 @@ use std::ops::RangeInclusive;
 
 use crate::check::accept;
 use crate::edit::Kind;
+use crate::frame::Frame;
+use crate::quick::{self, End};
+use crate::settings::Settings;
 use crate::{Answer, edit, number, search};
 
 const CHANNELS: RangeInclusive<u32> = 1..=32;
@@ -34,6 +37,13 @@ impl Pair {
     fn turn(&self, delay: i32) -> i32 {
         if self.turned { -delay } else { delay }
     }
+
+    /// The delay in the order given, out of the pair's record.
+    fn delay_in(&self, record: &[u8]) -> Answer<i32> {
+        let bytes = record.try_into().map_err(|_| number::DELAY)?;
+        let delay = check_delay(i32::from_le_bytes(bytes))?;
+        Ok(self.turn(delay))
+    }
 }
 
 fn check_delay(delay: i32) -> Answer<i32> {
@@ -48,10 +58,18 @@ pub fn ask(block: &[u8], image: &[u8], a: u32, b: u32) -> Answer<i32> {
     accept(block, image)?;
     let pair = Pair::of(a, b)?;
     let found = search::find(block, image, &pair.key)?.map_err(|_| number::ABSENT)?;
-    let record = &image[found.entry.value_at..][..found.entry.value_length];
-    let bytes = record.try_into().map_err(|_| number::DELAY)?;
-    let delay = check_delay(i32::from_le_bytes(bytes))?;
-    Ok(pair.turn(delay))
+    pair.delay_in(&image[found.entry.value_at..][..found.entry.value_length])
+}
+
+/// Of the image's own numbers only that of the frame is known here. What the
+/// walk meets comes after those of the pair and before the record.
+pub fn quick_ask(block: &[u8], image: &[u8], a: u32, b: u32) -> Answer<i32> {
+    let frame = Frame::read(Settings::read(block)?, image)?;
+    let pair = Pair::of(a, b)?;
+    match quick::walk(&frame, image, &pair.key)? {
+        End::Key { stored, .. } => pair.delay_in(stored.value),
+        End::Empty { .. } => Err(number::ABSENT),
+    }
 }
 
 pub fn set(block: &[u8], image: &mut [u8], a: u32, b: u32, delay: i32) -> Answer<()> {

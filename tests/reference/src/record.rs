@@ -8,6 +8,16 @@ use crate::{Answer, number};
 pub const MOST_KEY_BYTES: usize = 1024;
 const MOST_VALUE_BYTES: usize = 65_535;
 
+/// An entry with lengths in form and range that ends within the chunks of its
+/// tier.
+#[derive(Clone, Copy, Debug)]
+pub struct Stored<'a> {
+    pub key: &'a [u8],
+    pub value: &'a [u8],
+    /// Offset of the value in the image.
+    pub value_at: usize,
+}
+
 /// An entry that meets every rule about itself.
 #[derive(Clone, Copy, Debug)]
 pub struct Entry<'a> {
@@ -20,20 +30,37 @@ pub struct Entry<'a> {
 }
 
 impl Settings {
-    /// The entry at a chunk index taken from a slot. Bytes are looked at
-    /// only inside the tier's chunks: an entry that leaves them is refused
-    /// whatever stands beyond. An index over V bits is not below N either.
+    /// The entry at a chunk index taken from a slot. An index over V bits is
+    /// not below N either.
     pub fn entry_at<'a>(
         &self,
         image: &'a [u8],
         tier: &Tier,
         first_chunk: u64,
     ) -> Option<Entry<'a>> {
-        if first_chunk >= self.chunks as u64 {
+        let stored = self.stored_at(image, tier, first_chunk)?;
+        let first_chunk = first_chunk as usize;
+        let start = tier.space + first_chunk * self.chunk_size;
+        let value_length = stored.value.len();
+        let chunks = self.chunks_for(stored.value_at + value_length - start);
+        (chunks <= self.most_chunks).then_some(Entry {
+            first_chunk,
+            chunks,
+            key: stored.key,
+            value_at: stored.value_at,
+            value_length,
+        })
+    }
+
+    /// The entry at a chunk index, however many chunks it takes. Bytes are
+    /// looked at only inside the tier's chunks: an entry that leaves them is
+    /// refused whatever stands beyond.
+    pub fn stored_at<'a>(&self, image: &'a [u8], tier: &Tier, chunk: u64) -> Option<Stored<'a>> {
+        if chunk >= self.chunks as u64 {
             return None;
         }
-        let first_chunk = first_chunk as usize;
-        let bytes = self.bytes_from(image, tier, first_chunk);
+        let chunk = chunk as usize;
+        let bytes = self.bytes_from(image, tier, chunk);
         let (key_length, key_start) = leb128::read(bytes)?;
         let key_end = key_start + key_length;
         let key = bytes.get(key_start..key_end)?;
@@ -42,14 +69,10 @@ impl Settings {
             return None;
         }
         let value_start = key_end + length_size;
-        let chunks = self.chunks_for(value_start + value_length);
-        let fits = chunks <= self.most_chunks && first_chunk + chunks <= self.chunks;
-        fits.then_some(Entry {
-            first_chunk,
-            chunks,
+        Some(Stored {
             key,
-            value_at: tier.space + first_chunk * self.chunk_size + value_start,
-            value_length,
+            value: bytes.get(value_start..value_start + value_length)?,
+            value_at: tier.space + chunk * self.chunk_size + value_start,
         })
     }
 

@@ -15,7 +15,7 @@ pub struct Settings {
     pub slot_size: usize,
     pub slots: usize,
     pub key_bits: usize,
-    chunk_bits: usize,
+    pub chunk_bits: usize,
     pub lookup_size: usize,
     pub list_size: usize,
     pub space_offset: usize,
@@ -31,6 +31,9 @@ pub struct Settings {
 }
 
 impl Settings {
+    /// Inlined, as the frame's reading is: a quick call does both each time, and
+    /// copies of what is read would take a good part of it.
+    #[inline(always)]
     pub fn read(block: &[u8]) -> Answer<Settings> {
         let fields = fields_of(block).ok_or(number::BLOCK)?;
         let settings = Settings::from_fields(&fields);

@@ -51,6 +51,11 @@ impl Settings {
         slot >> self.key_bits
     }
 
+    /// The chunk that any slot names, whatever its bits above.
+    pub fn named_chunk(&self, slot: u64) -> u64 {
+        (slot >> self.key_bits) & ((1 << self.chunk_bits) - 1)
+    }
+
     pub fn join_slot(&self, lookup_key: u64, first_chunk: usize) -> u64 {
         lookup_key | (first_chunk as u64) << self.key_bits
     }

@@ -1,9 +1,8 @@
-use mathlib.Core.Path.{refl}
 use native.Mathlib.Omega.{arith}
 use borrow.Author.Tests.{not-true, not-false}
 use Rattle.lists.proofs.Decides.{decided-true, decided-false}
 use Rattle.chronicle_map.proofs.Calling.{record-within}
-use Rattle.pairs.proofs.Answering.{ask-refused, ask-misfit, found-refused, found-none, found-record}
+use Rattle.pairs.proofs.Answering.{within-by, ask-refused, ask-misfit, ask-looked}
 use borrow.Author.Needs.{needs}
 use Rattle.pairs.proofs.delay.Statement.{statement}
 use Rattle.pairs.proofs.delay.Tie as tie
@@ -30,13 +29,13 @@ returns c =
 
 returns-2 : tie.Need-returns-2
 returns-2 c =
-    let p = c .before .before .before in let if1 = p .if1 in
+    let p = c .before .before in let check = p .check in
+    let p = p .before in let if1 = p .if1 in
     let p = p .before in let channels-fit = p .channels-fit in
     let start = p .before .before .before in
     let s = start .args in
-    let fit = channels-fit in
-    ask-misfit (s .block .now) (s .img .now) (s .a) (s .b) (c .before .before .check .ensures) (c .enum-told .given .0 .0)
-    (c .enum-told .given .1) (decided-false (fit .result) (fit .ensures) (not-true _ (if1 .taken)))
+    ask-misfit (s .block .now) (s .img .now) (s .a) (s .b) (check .ensures) (c .enum-told .given .0 .0)
+    (c .enum-told .given .1) (decided-false (channels-fit .result) (channels-fit .ensures) (not-true _ (if1 .taken)))
 
 pair-key-requires : tie.Need-pair-key-requires
 pair-key-requires c κs =
@@ -49,82 +48,25 @@ slice-aggregate-lookup c = search needs
 lookup-requires : tie.Need-lookup-requires
 lookup-requires c κs = search needs
 
-enum-known-stage : tie.Need-enum-known-stage
-enum-known-stage c = search needs
-
-enum-told-2 : tie.Need-enum-told-2
-enum-told-2 c = search needs
-
-enum-known-p : tie.Need-enum-known-p
-enum-known-p c = search needs
-
-add-to : tie.Need-add-to
-add-to c =
-    let p = c .before .before in let found = p .p .given in
-    let p = p .before .before in let lookup = p .lookup in
-    let p = p .before .before .before .before .before in let bytes = p .shared-slice-known2 .given in
-    let s = p .before .before .args in
-    omega (
-      arith,
-      record-within (s .block .now) (s .img .now) _ (lookup .result) (lookup .ensures) (λ i. omega (arith, bytes i)) (found .0 .0) (found .1) .0,
-    )
-
-sub-from-record : tie.Need-sub-from-record
-sub-from-record c = search needs
-
-part-from-record-start : tie.Need-part-from-record-start
-part-from-record-start c = search needs
-
-part-from-record-end : tie.Need-part-from-record-end
-part-from-record-end c =
-    let p = c .before .before in let found = p .p .given in
-    let p = p .before .before in let lookup = p .lookup in
-    let p = p .before .before .before .before .before in let bytes = p .shared-slice-known2 .given in
-    let s = p .before .before .args in
-    omega (
-      arith,
-      record-within (s .block .now) (s .img .now) _ (lookup .result) (lookup .ensures) (λ i. omega (arith, bytes i)) (found .0 .0) (found .1) .0,
-    )
-
-from-record-requires : tie.Need-from-record-requires
-from-record-requires c κs = search needs
+from-located-requires : tie.Need-from-located-requires
+from-located-requires c κs =
+    let p = c .before .before .before .before .before in let shared-slice-known2 = p .shared-slice-known2 in
+    let start = p .before .before in
+    let s = start .args in
+    within-by (s .img .now) (c .lookup .result)
+    (record-within (s .block .now) (s .img .now) _ (c .lookup .result) (c .lookup .ensures) (λ i. omega (arith, shared-slice-known2 .given i)))
 
 returns-3 : tie.Need-returns-3
 returns-3 c =
-    let p = c .before in let stage = p .stage in
-    let p = p .before .before in let lookup = p .lookup in
+    let p = c .before in let lookup = p .lookup in
     let p = p .before .before in let pair-key = p .pair-key in
     let p = p .before in let if1 = p .if1 in
     let p = p .before in let channels-fit = p .channels-fit in
     let start = p .before .before .before in
     let s = start .args in
-    found-refused (s .block .now) (s .img .now) (s .a) (s .b)
+    ask-looked (s .block .now) (s .img .now) (s .a) (s .b)
     (decided-true (channels-fit .result) (channels-fit .ensures) (not-false _ (if1 .left))) (pair-key .ensures) (lookup .ensures)
-    (stage .given .0 .0) (stage .given .1)
-
-returns-4 : tie.Need-returns-4
-returns-4 c =
-    let p = c .before .before .before .before in let pair-key = p .pair-key in
-    let p = p .before in let if1 = p .if1 in
-    let p = p .before in let channels-fit = p .channels-fit in
-    let start = p .before .before .before in
-    let s = start .args in
-    found-none (s .block .now) (s .img .now) (s .a) (s .b)
-    (decided-true (channels-fit .result) (channels-fit .ensures) (not-false _ (if1 .left))) (pair-key .ensures)
-    (c .before .before .lookup .ensures) (c .enum-told2 .given .0 .0) (c .enum-told2 .given .1)
-
-returns-5 : tie.Need-returns-5
-returns-5 c =
-    let p = c .before .before .before .before in let found = p .p .given in
-    let p = p .before .before in let lookup = p .lookup in
-    let p = p .before .before in let pair-key = p .pair-key in
-    let p = p .before in let if1 = p .if1 in
-    let p = p .before in let channels-fit = p .channels-fit in
-    let start = p .before .before .before in
-    let s = start .args in
-    found-record (s .block .now) (s .img .now) (s .a) (s .b)
-    (decided-true (channels-fit .result) (channels-fit .ensures) (not-false _ (if1 .left))) (pair-key .ensures) (lookup .ensures)
-    (found .0 .0) (found .1) refl (c .from-record .ensures)
+    (c .from-located .ensures)
 
 pub delay-spec : {M : Type 1} → statement M
 delay-spec =
@@ -139,14 +81,5 @@ delay-spec =
     pair-key-requires
     slice-aggregate-lookup
     lookup-requires
-    enum-known-stage
-    enum-told-2
-    enum-known-p
-    add-to
-    sub-from-record
-    part-from-record-start
-    part-from-record-end
-    from-record-requires
-    returns-3
-    returns-4
-    returns-5)
+    from-located-requires
+    returns-3)

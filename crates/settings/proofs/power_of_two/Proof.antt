@@ -1,31 +1,30 @@
-use borrow.Author.Needs.{needs}
-use Prim.Native.Nat.{_-_}
-use Rattle.settings.proofs.Laws.{Doubling, doubling-starts, doubling-turns, doubling-pos, doubling-ends}
+use Prim.Native.Nat.{ℕ, _-_}
+use mathlib.Core.Path.{sym, subst}
+use lib.Count.{leadingZeros}
+use lib.Dec.{eqb}
+use Rattle.lists.specs.Decide.{Decides}
+use Rattle.words.proofs.Bits.{shifted-one}
+use Rattle.settings.specs.Rules.{PowerOfTwo}
 use native.Mathlib.Omega.{arith}
+use Rattle.settings.proofs.Powers.{highest-zeros, highest-power}
+use borrow.Author.Needs.{needs}
 use Rattle.settings.proofs.power_of_two.Statement.{statement}
 use Rattle.settings.proofs.power_of_two.Tie as tie
 
-abbrev Inv-loop : tie.InvT-loop
-Inv-loop n p₀ p = Doubling n p
+cast-result : tie.Need-cast-result
+cast-result c = omega (arith, highest-zeros (c .args .n) (c .pre))
 
-abbrev μ-loop : tie.MeasureT-loop
-μ-loop n p₀ p = n - p
+sub-result : tie.Need-sub-result
+sub-result c = omega (arith, highest-zeros (c .args .n) (c .pre))
 
-loop-holds : tie.Need-loop-holds Inv-loop μ-loop
-loop-holds c = doubling-starts _
+shl-result : tie.Need-shl-result
+shl-result c = search needs
 
-mul-p : tie.Need-mul-p Inv-loop μ-loop
-mul-p c = search needs
-
-loop-less : tie.Need-loop-less Inv-loop μ-loop
-loop-less c = omega (arith, doubling-pos (c .before .loop .inv))
-
-loop-again : tie.Need-loop-again Inv-loop μ-loop
-loop-again c = doubling-turns (c .before .loop .inv) (omega arith) (omega arith)
-
-returns : tie.Need-returns Inv-loop μ-loop
-returns c = doubling-ends (c .before .loop .inv) (omega arith)
+returns : tie.Need-returns
+returns c =
+    let k : ℕ = 63 - leadingZeros 64 (c .args .n) in
+    subst (λ (x : ℕ). Decides (eqb x (c .args .n)) (PowerOfTwo (c .args .n))) (sym (shifted-one 64 k (omega arith)))
+    (highest-power (c .args .n) (c .pre))
 
 pub power-of-two-spec : {M : Type 1} → statement M
-power-of-two-spec =
-    tie.close (tie.spec Inv-loop μ-loop loop-holds mul-p loop-less loop-again returns)
+power-of-two-spec = tie.close (tie.spec cast-result sub-result shl-result returns)

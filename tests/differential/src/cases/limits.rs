@@ -8,7 +8,8 @@ use crate::damage::Verdict;
 use crate::draw;
 use crate::kinds::Kind;
 use crate::model::Model;
-use crate::plan::{MOST_TIERS, Plan};
+use crate::plan::{MOST_BYTES, MOST_TIERS, Plan};
+use crate::quick;
 use crate::rng::Rng;
 use crate::settings::Size;
 use crate::tally::Tally;
@@ -60,16 +61,15 @@ pub fn most_tiers(rng: &mut Rng, tally: &mut Tally) -> Outcome<()> {
 /// An image of the greatest length, or a byte more. One bulk more may end
 /// with it, or a byte behind it.
 pub fn longest_image(rng: &mut Rng, tally: &mut Tally) -> Outcome<()> {
-    const LONGEST: usize = 1 << 24;
     let mut plan = Plan::random(rng, Size::Tiny);
     let too_long = rng.percent(50);
     if rng.percent(50) {
         plan.bulks = 0;
-        plan.bulk_size = LONGEST - plan.store_size() + rng.below(2);
+        plan.bulk_size = MOST_BYTES - plan.store_size() + rng.below(2);
     }
     let (mut plan, _, model) = scene_of(rng, plan);
     let mut image = model.image(rng);
-    image.resize(LONGEST + usize::from(too_long), 0xEE);
+    image.resize(MOST_BYTES + usize::from(too_long), 0xEE);
     plan.bytes_after = image.len() - plan.store_size();
     let kind = *rng.pick(&[Kind::OnTheSpot, Kind::Tight]);
     let mut pair = Pair::new(plan.block(), image, tally);
@@ -80,6 +80,7 @@ pub fn longest_image(rng: &mut Rng, tally: &mut Tally) -> Outcome<()> {
             "check of a long image: {number}, meant was {expected}"
         ));
     }
+    quick::calls(&plan, &[vec![1]], &mut pair, number)?;
     pair.store(kind, &[1], &[2])?;
     match too_long {
         true => pair.grow(),

@@ -21,6 +21,7 @@ impl History<'_, '_> {
             let events = events.chain(self.went_home.grown(first_free));
             events.for_each(|event| self.pair.met(event));
             self.totals()?;
+            self.lookup_of(&self.keys[0])?;
         }
         Ok(number)
     }

@@ -37,6 +37,7 @@ impl History<'_, '_> {
             0 => {
                 self.course.removed();
                 self.edited(key, Deed::Removed, |links| links.of_removal())?;
+                self.lookup_of(key)?;
             }
             1 => self.passed_by(key),
             _ => {}

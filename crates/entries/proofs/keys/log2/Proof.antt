@@ -1,4 +1,4 @@
-use Rattle.entries.proofs.Powers.{leadingZeros-power}
+use Rattle.settings.proofs.Powers.{leadingZeros-power}
 use native.Mathlib.Omega.{arith}
 use Rattle.entries.proofs.keys.log2.Statement.{statement}
 use Rattle.entries.proofs.keys.log2.Tie as tie

@@ -1,8 +1,10 @@
 use native.Mathlib.Omega.{arith}
-use borrow.Author.Needs.{needs}
-use Rattle.entries.proofs.Matching.{Matching, match-starts, match-turns, length-differs, byte-differs, all-same}
-use Prim.Native.Nat.{_-_}
+use Prim.Native.Nat.{_-_, _*_, _/_}
 use mathlib.Core.Path.{sym}
+use borrow.Author.Tests.{not-true, not-false}
+use Rattle.lists.proofs.Decides.{decided-true, decided-false}
+use Rattle.entries.proofs.Matching.{Matching, match-starts, match-turns, length-differs, byte-differs, some-differ, all-same}
+use borrow.Author.Needs.{needs}
 use Rattle.entries.proofs.read.same_key.Statement.{statement}
 use Rattle.entries.proofs.read.same_key.Tie as tie
 
@@ -14,26 +16,44 @@ abbrev μ-loop : tie.MeasureT-loop
 
 returns : tie.Need-returns Inv-loop μ-loop
 returns c =
-    let start = c .before in
-    sym (length-differs (start .args .img .now) (start .args .at) (start .args .n) (start .args .key .now) (start .pre) (omega arith))
+    let start = c .before .before .before in
+    let s = start .args in
+    sym (length-differs (s .img .now) (s .at) (s .n) (s .key .now) (start .pre) (omega arith))
 
-loop-holds : tie.Need-loop-holds Inv-loop μ-loop
-loop-holds c = match-starts (omega arith)
-
-add-if2 : tie.Need-add-if2 Inv-loop μ-loop
-add-if2 c = search needs
-
-shared-slice-read-if2 : tie.Need-shared-slice-read-if2 Inv-loop μ-loop
-shared-slice-read-if2 c = search needs
-
-shared-slice-read-if2-2 : tie.Need-shared-slice-read-if2-2 Inv-loop μ-loop
-shared-slice-read-if2-2 c = search needs
+same-eights-requires : tie.Need-same-eights-requires Inv-loop μ-loop
+same-eights-requires c κs = record { there = omega arith; given = omega arith }
 
 returns-2 : tie.Need-returns-2 Inv-loop μ-loop
 returns-2 c =
+    let p = c .before in let same-eights = p .same-eights in
+    let start = p .before .before .before .before in
+    let s = start .args in
+    sym (some-differ (s .img .now) (s .at) (s .n) (s .key .now) (start .pre) (8 * (s .n / 8)) (omega arith)
+    (decided-false (same-eights .result) (same-eights .ensures) (not-true _ (c .if2 .taken))))
+
+mul-i : tie.Need-mul-i Inv-loop μ-loop
+mul-i c = search needs
+
+loop-holds : tie.Need-loop-holds Inv-loop μ-loop
+loop-holds c =
+    let p = c .before in let same-eights = p .same-eights in
+    match-starts (omega arith) (omega arith) (decided-true (same-eights .result) (same-eights .ensures) (not-false _ (c .if2 .left)))
+
+add-if3 : tie.Need-add-if3 Inv-loop μ-loop
+add-if3 c = search needs
+
+shared-slice-read-if3 : tie.Need-shared-slice-read-if3 Inv-loop μ-loop
+shared-slice-read-if3 c = search needs
+
+shared-slice-read-if3-2 : tie.Need-shared-slice-read-if3-2 Inv-loop μ-loop
+shared-slice-read-if3-2 c = search needs
+
+returns-3 : tie.Need-returns-3 Inv-loop μ-loop
+returns-3 c =
     let p = c .before .before .before .before in let the-loop = p .loop in
-    let start = p .before .before in
-    sym (byte-differs (start .args .img .now) (start .args .at) (start .args .n) (start .args .key .now) (start .pre) (the-loop .i) (omega arith)
+    let start = p .before .before .before .before .before .before in
+    let s = start .args in
+    sym (byte-differs (s .img .now) (s .at) (s .n) (s .key .now) (start .pre) (the-loop .i) (omega arith)
     (omega arith))
 
 add-i : tie.Need-add-i Inv-loop μ-loop
@@ -43,15 +63,14 @@ loop-less : tie.Need-loop-less Inv-loop μ-loop
 loop-less c = search needs
 
 loop-again : tie.Need-loop-again Inv-loop μ-loop
-loop-again c =
-    let p = c .before .before .before .before in let the-loop = p .loop in
-    match-turns (the-loop .inv) (omega arith) (omega arith)
+loop-again c = match-turns (c .before .before .before .before .loop .inv) (omega arith) (omega arith)
 
-returns-3 : tie.Need-returns-3 Inv-loop μ-loop
-returns-3 c =
-    let start = c .before .before .before in
-    sym (all-same (start .args .img .now) (start .args .at) (start .args .n) (start .args .key .now) (start .pre) (c .before .loop .inv)
-    (omega arith))
+returns-4 : tie.Need-returns-4 Inv-loop μ-loop
+returns-4 c =
+    let p = c .before in let the-loop = p .loop in
+    let start = p .before .before .before .before .before .before in
+    let s = start .args in
+    sym (all-same (s .img .now) (s .at) (s .n) (s .key .now) (start .pre) (the-loop .inv) (omega arith))
 
 pub same-key-spec : {M : Type 1} → statement M
 same-key-spec =
@@ -60,12 +79,15 @@ same-key-spec =
     Inv-loop
     μ-loop
     returns
-    loop-holds
-    add-if2
-    shared-slice-read-if2
-    shared-slice-read-if2-2
+    same-eights-requires
     returns-2
+    mul-i
+    loop-holds
+    add-if3
+    shared-slice-read-if3
+    shared-slice-read-if3-2
+    returns-3
     add-i
     loop-less
     loop-again
-    returns-3)
+    returns-4)

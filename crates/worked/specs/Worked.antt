@@ -1,10 +1,11 @@
 -- The worked store X: the cases p1 to p10 of the scope and those of the requests up to A4, each an image, the calls made on it, a question
--- and what is due. WorkedHome.antt has the one list of all cases.
+-- and what is due. WorkedQuick.antt has the one list of all cases.
 use Prim.Native.Nat.{ℕ, suc}
 use mathlib.Core.List.{List, [], _∷_, _++_, map}
 use mathlib.Core.Bool.{true, false}
 use lib.Dec.{eqb}
 use lib.ListN.{replicate}
+use lib.IntN.{ℤ, pos, negsuc}
 use Rattle.words.specs.Bytes.{cut}
 use Rattle.words.specs.Numbers.{putLe}
 use Rattle.settings.specs.Worked.{fieldsX, blockWith}
@@ -12,8 +13,11 @@ use Rattle.image.specs.Check.{check, verdictNumbers}
 use Rattle.image.specs.List.{entry, listedNumbers}
 use Rattle.edit.specs.declared.Policy.{Policy}
 use Rattle.edit.specs.declared.Policy.the-variants.{OnTheSpot, Tight}
 use Rattle.chronicle_map.specs.Calls.{lookup, lookupNumbers, recordBytes}
 use Rattle.chronicle_map.specs.History.{Call, stores, removes, grows, Said, run, answers}
+use Rattle.quick.specs.Quick.{quickLookup}
+use Rattle.pairs.specs.Delays.{Reply, askedReply}
+use Rattle.pairs.specs.Quick.{quickDelay}
 
 unfoldable pub blockX : List ℕ
 blockX = blockWith 1 fieldsX
@@ -116,6 +120,10 @@ pub data Asks : Type 0 where
   lists : ℕ → Asks
   -- a lookup's five numbers and the record's bytes
   finds : List ℕ → Asks
+  -- a quick lookup's five numbers
+  findsQuickly : List ℕ → Asks
+  -- a quick ask for a pair of channels: its number and the delay
+  asksQuickly : ℕ → ℕ → Asks
   -- n bytes at an offset
   bytes : ℕ → ℕ → Asks
   -- the numbers that the calls answered
@@ -129,6 +137,14 @@ changed at [] ys = []
 changed at (x ∷ xs) [] = []
 changed at (x ∷ xs) (y ∷ ys) = elim (eqb x y) [ true ↦ changed (suc at) xs ys | false ↦ at ∷ y ∷ changed (suc at) xs ys ]
 
+-- a delay as two numbers: 1 where it is below 0 and else 0, and how far it is from 0
+abbrev pub signed : ℤ → List ℕ
+signed (pos n) = 0 ∷ n ∷ []
+signed (negsuc n) = 1 ∷ suc n ∷ []
+
+abbrev pub replyNumbers : Reply → List ℕ
+replyNumbers r = r .number ∷ signed (r .delay)
+
 pub data Case : Type 0 where
   case : List ℕ → List Call → Asks → List ℕ → Case
 
@@ -136,6 +152,8 @@ abbrev pub reply : List ℕ → List ℕ → List Call → Asks → List ℕ
 reply img now calls checks = verdictNumbers (check blockX now)
 reply img now calls (lists n) = listedNumbers (entry blockX now n)
 reply img now calls (finds key) = lookupNumbers (lookup blockX now key) ++ recordBytes now (lookup blockX now key)
+reply img now calls (findsQuickly key) = lookupNumbers (quickLookup blockX now key)
+reply img now calls (asksQuickly a b) = replyNumbers (askedReply (quickDelay blockX now a b))
 reply img now calls (bytes at n) = cut now at n
 reply img now calls answered = map (λ (s : Said). s .number) (answers blockX img calls)
 reply img now calls (changes more) = changed 0 now (run blockX now more)

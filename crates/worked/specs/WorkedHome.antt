@@ -1,11 +1,11 @@
--- The cases of request A13 on the worked store: an emptied tier goes home; and the one list of all cases.
+-- The cases of request A13 on the worked store: an emptied tier goes home.
 use Prim.Native.Nat.{ℕ}
 use mathlib.Core.List.{List, [], _∷_, _++_}
 use lib.ListN.{replicate}
 use Rattle.words.specs.Numbers.{putLe}
 use Rattle.edit.specs.declared.Policy.the-variants.{OnTheSpot, Tight}
 use Rattle.chronicle_map.specs.History.{Call, stores, removes, run}
-use Rattle.chronicle_map.specs.Worked.{blockX, imageX, pair, four, after5, after6, checks, finds, bytes, changes, Case, case, earlier}
+use Rattle.worked.specs.Worked.{blockX, imageX, pair, four, after5, after6, checks, finds, bytes, changes, Case, case}
 
 -- X with three bulks: tiers 2, 3 and 4 are free, in this order
 abbrev pub wideX : List ℕ
@@ -54,8 +54,3 @@ goingHome =
     (11 ∷ 2 ∷ 16 ∷ 1 ∷ 80 ∷ 3 ∷ 300 ∷ 0 ∷ 360 ∷ 4 ∷ 392 ∷ 0 ∷ 424 ∷ 0 ∷ 568 ∷ 1 ∷ 588 ∷ 1 ∷ [])
     ∷ case wideX (lastOf2 ++ (removes (pair 5 1) ∷ [])) checks (0 ∷ 4 ∷ 4 ∷ 2 ∷ 2 ∷ [])
     ∷ []
-
--- ---- all of them
-
-unfoldable pub cases : List Case
-cases = earlier ++ goingHome

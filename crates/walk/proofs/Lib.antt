@@ -1,0 +1,4 @@
+pub mod Testing
+pub mod Walking
+pub mod Agreeing
+pub mod Finding

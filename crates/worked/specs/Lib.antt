@@ -1,0 +1,4 @@
+pub mod Everything
+pub mod Worked
+pub mod WorkedHome
+pub mod WorkedQuick

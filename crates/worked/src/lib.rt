@@ -1,0 +1,1 @@
+// The worked cases of the papers, by computing the definitions. No code.
