@@ -62,7 +62,8 @@ le-same l l′ a b (suc n) h =
         let q : suc b + j ≡ b + suc j = omega arith in
         rw (p, q) (h (suc j) (omega arith))
 
-pub le-inj : (l l′ : List ℕ) (a b n : ℕ) → Bytes l → Bytes l′ → le l a n ≡ le l′ b n → (j : ℕ) → j < n → getD l (a + j) 0 ≡ getD l′ (b + j) 0
+pub le-inj : (l l′ : List ℕ) (a b n : ℕ) → Bytes l → Bytes l′ → le l a n ≡ le l′ b n
+    → (j : ℕ) → j < n → getD l (a + j) 0 ≡ getD l′ (b + j) 0
 unfolding le
 le-inj l l′ a b zero bl bm e j h = absurd (omega arith)
 le-inj l l′ a b (suc n) bl bm e zero h = rw (add-zero, add-zero) (omega (arith, e, bl a, bm b))
