@@ -71,11 +71,11 @@ same-get z img sound m w key = by-find (find z img key) refl
     by-find none f = map-none z img sound (pairsOf z img) (λ F. refl) key f ∙ sym (map-none z img sound m w key f)
     by-find (some e) f = map-found z img sound (pairsOf z img) (λ F. refl) key e f ∙ sym (map-found z img sound m w key e f)
 
-set-own : (m : Map) (key value : List ℕ) → mapGet (mapSet m key value) key ≡ some (record { key = key; value = value })
+pub set-own : (m : Map) (key value : List ℕ) → mapGet (mapSet m key value) key ≡ some (record { key = key; value = value })
 unfolding mapGet hasKey first
 set-own m key value = rw (same-refl key, first)
 
-drop-own : (m : Map) (key : List ℕ) → mapGet (mapDrop m key) key ≡ none
+pub drop-own : (m : Map) (key : List ℕ) → mapGet (mapDrop m key) key ≡ none
 unfolding mapGet mapDrop
 drop-own m key = none-first (hasKey key) (those m (λ p. not (hasKey key p))) (λ p mp. not-true _ (those-in (λ (q : Pair). not (hasKey key q)) p m mp .1))
 
@@ -83,7 +83,7 @@ key-apart : (p : Pair) (key other : List ℕ) → other ≢ key → hasKey key p
 unfolding hasKey
 key-apart p key other n t = same-false (p .key) other (λ (e : p .key ≡ other). n (sym e ∙ same-true (p .key) key t))
 
-drop-other : (m : Map) (key other : List ℕ) → other ≢ key → mapGet (mapDrop m key) other ≡ mapGet m other
+pub drop-other : (m : Map) (key other : List ℕ) → other ≢ key → mapGet (mapDrop m key) other ≡ mapGet m other
 unfolding mapGet mapDrop first those
 drop-other [] key other n = refl
 drop-other (p ∷ m) key other n =
@@ -97,7 +97,7 @@ drop-other (p ∷ m) key other n =
     (λ (u : hasKey other p ≡ true). rw (u, first))
     (λ (u : hasKey other p ≡ false). rw (u, first) (drop-other m key other n))))
 
-set-other : (m : Map) (key value other : List ℕ) → other ≢ key → mapGet (mapSet m key value) other ≡ mapGet m other
+pub set-other : (m : Map) (key value other : List ℕ) → other ≢ key → mapGet (mapSet m key value) other ≡ mapGet m other
 unfolding mapGet hasKey first
 set-other m key value other n = rw (same-false key other (λ (e : key ≡ other). n (sym e)), first) (drop-other m key other n)
 

@@ -7,6 +7,7 @@ use native.Mathlib.Omega.{arith}
 use lib.ListN.{length, length-map}
 use Rattle.lists.specs.Cases.{same-or}
 use Rattle.lists.specs.Lists.{howMany, total}
+use Rattle.lists.specs.Runs.{afterAll, onEach}
 use Rattle.lists.proofs.Totals.{howMany-total}
 use Rattle.words.specs.Bytes.{Bytes}
 use Rattle.settings.specs.declared.Settings.{Settings}
@@ -38,7 +39,7 @@ use Rattle.chronicle_map.proofs.Covered.{covered-live}
 module _ (block : List ℕ) where
   pub same-answers : (calls : List Call) (img : List ℕ) (m : Map) → Holds block img → Weigh (mapOf block img) m → ByteCalls calls
       → answers block img calls ≡ mapAnswers (settingsOf block) m calls (told block img calls)
-  unfolding answers told mapAnswers
+  unfolding onEach mapAnswers
   same-answers [] img m h w b = refl
   same-answers (c ∷ cs) img m h w b =
       let s : Step block img h m w c = step block img h m w c (b .0) in
@@ -53,7 +54,7 @@ module _ (block : List ℕ) where
 
   pub after : (calls : List Call) (img : List ℕ) (m : Map) → Holds block img → Weigh (mapOf block img) m → ByteCalls calls
       → After (run block img calls) (mapAfter (settingsOf block) m calls (told block img calls))
-  unfolding run told mapAfter
+  unfolding afterAll onEach mapAfter
   after [] img m h w b = record { holds = h; weighs = w }
   after (c ∷ cs) img m h w b =
       let s : Step block img h m w c = step block img h m w c (b .0) in

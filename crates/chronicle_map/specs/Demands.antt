@@ -141,6 +141,10 @@ pub record LooksUp (block img key : List ℕ) : Type 0 where
   pub none : KeyFits (settingsOf block) key → mapGet (mapOf block img) key ≡ none
       → lookup block img key ≡ looked.Absent (searchEnd (shape block img) img key)
 
+-- two images read as the same map: the same keys with the same records, in any order
+abbrev pub SameMap : List ℕ → List ℕ → List ℕ → Type 0
+SameMap block one other = (key : List ℕ) → mapGet (mapOf block one) key ≡ mapGet (mapOf block other) key
+
 -- an image that reads as the same map with only this key altered
 pub record Alters (block img img′ key : List ℕ) (p : Option Pair) : Type 0 where
   pub accepted : Accepted block img′
@@ -186,7 +190,7 @@ module _ (block img key value : List ℕ) (e : Live) where
   pub record SameSize : Type 0 where
     pub done : (policy : Policy) → answerNumber (store policy block img key value .answer) ≡ 0
     -- both leave the same map, with the same sum of chunks, which the check counts
-    pub sameMap : (other : List ℕ) → mapGet (mapOf block (after OnTheSpot)) other ≡ mapGet (mapOf block (after Tight)) other
+    pub sameMap : SameMap block (after OnTheSpot) (after Tight)
     pub sameSum : chunksOfMap st (mapOf block (after OnTheSpot)) ≡ chunksOfMap st (mapOf block (after Tight))
     pub sameMarked : (c d : Counts) → check block (after OnTheSpot) ≡ record { outcome = outcome.Accepted c }
         → check block (after Tight) ≡ record { outcome = outcome.Accepted d } → c .chunks ≡ d .chunks

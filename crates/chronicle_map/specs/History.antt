@@ -6,6 +6,7 @@ use mathlib.Core.Option.{Option, none, some}
 use lib.ListN.{length}
 use Rattle.lists.specs.Decide.{choose}
 use Rattle.lists.specs.Lists.{first, those}
+use Rattle.lists.specs.Runs.{afterAll, onEach}
 use Rattle.words.specs.Bytes.{same}
 use Rattle.settings.specs.declared.Settings.{Settings}
 use Rattle.settings.specs.Block.{settingsOf}
@@ -51,19 +52,15 @@ module _ (block : List ℕ) where
   toldOf img (removes key) = false
   toldOf img grows = noBulk (shapeOf (settingsOf block) img) (length img)
 
-  -- a list of calls, each on the image as the last one left it
-  unfoldable pub run : List ℕ → List Call → List ℕ
-  run img [] = img
-  run img (c ∷ cs) = run (leaves img c) cs
+  -- a list of calls, each on the image as the last one left it: the image at the end, what each call answered, what the map is told of each
+  abbrev pub run : List ℕ → List Call → List ℕ
+  run img calls = afterAll leaves img calls
 
-  unfoldable pub answers : List ℕ → List Call → List Said
-  answers img [] = []
-  answers img (c ∷ cs) = says img c ∷ answers (leaves img c) cs
+  abbrev pub answers : List ℕ → List Call → List Said
+  answers img calls = onEach leaves says img calls
 
-  -- the same of each call
-  unfoldable pub told : List ℕ → List Call → List Bool
-  told img [] = []
-  told img (c ∷ cs) = toldOf img c ∷ told (leaves img c) cs
+  abbrev pub told : List ℕ → List Call → List Bool
+  told img calls = onEach leaves toldOf img calls
 
 -- ---- the map
 

@@ -2,11 +2,12 @@
 use Prim.Native.Nat.{ℕ, _+_, _≤_, _<_}
 use mathlib.Core.List.{List}
 use mathlib.Core.Path.{_≡_, refl, ap, sym, _∙_}
-use mathlib.Core.Bool.{Bool, true, false, _||_}
+use mathlib.Core.Bool.{true, false}
 use native.Mathlib.Omega.{arith}
 use native.Mathlib.Nat.{le-refl}
 use lib.Dec.{ltb}
 use borrow.Author.Tests.{ltb-false, lt-ltb, le-ltb}
+use Rattle.lists.specs.Cases.{neither}
 use Rattle.settings.specs.declared.Settings.{Settings}
 use Rattle.settings.proofs.Laws.{product-le}
 use Rattle.layout.specs.declared.Shape.{Shape}
@@ -71,11 +72,6 @@ module _ (z : Shape) where
       }
 
   -- ---- where there is room for the bulk
-
-  -- the first of two tests that both fail, and the second
-  neither : (a b : Bool) → (a || b) ≡ false → (a ≡ false) × (b ≡ false)
-  neither true b e = absurd (let y : _≡_ {A = ℕ} 0 1 = cc in omega arith)
-  neither false b e = (refl, e)
 
   pub room-framed : {len : ℕ} → Framed z len → noBulk z len ≡ false → Framed (grown z) len
   unfolding noBulk

@@ -23,7 +23,7 @@ use Rattle.pairs.specs.declared.Asked.the-variants as asked
 use Rattle.pairs.specs.declared.SetAnswer.{SetAnswer}
 use Rattle.pairs.specs.declared.SetAnswer.the-variants as set
 use Rattle.pairs.specs.Pairs.{ChannelsFit, channelsFit?, pairKey, delayRecord, mostNegative, recordFits?, inOrder}
-use Rattle.pairs.specs.Delays.{fromRecord, fromLocated, delay, Setting, unlessRefused, setDelay, setNumber}
+use Rattle.pairs.specs.Delays.{fromRecord, fromLocated, delay, Setting, refusing, unlessRefused, setDelay, setNumber}
 use Rattle.pairs.proofs.Orders.{key-bytes, key-fits}
 use Rattle.pairs.proofs.Records.{record-bytes}
 use Rattle.pairs.proofs.Answering.{ask-misfit, ask-fits, set-misfit, set-most, set-fits}
@@ -92,18 +92,25 @@ module _ (block img : List ℕ) (bytes : Bytes img) (accepted : Accepted block i
         let answer : SetAnswer = set.Stored (store OnTheSpot block img (pairKey a b) value .answer) in
         subst (AfterSet block img a b d) (λ i. record { answer = answer; image = sym e i }) (unchanged answer m)
 
+  -- what the check says comes first, and it says nothing here
+  first : {other : SetAnswer} → other ≡ unlessRefused other (check block img .outcome)
+  first {other} = ap (λ (v : Verdict). unlessRefused other (v .outcome)) (sym (accepted .1))
+
+  pub set-unfit : (ChannelsFit a b → ⊥) → refusing img set.BadPair ≡ setDelay block img a b d
+  set-unfit n = set-misfit block img a b d n first
+
+  pub set-lowest : ChannelsFit a b → d ≡ mostNegative → refusing img set.BadDelay ≡ setDelay block img a b d
+  set-lowest f e = set-most block img a b d f e first
+
   pub after-set : AfterSet block img a b d (setDelay block img a b d)
   after-set = by-pair (channelsFit? a b)
     where
-      first : {other : SetAnswer} → other ≡ unlessRefused other (check block img .outcome)
-      first {other} = ap (λ (v : Verdict). unlessRefused other (v .outcome)) (sym (accepted .1))
-
       by-number : ChannelsFit a b → Dec (d ≡ mostNegative) → AfterSet block img a b d (setDelay block img a b d)
-      by-number f (yes e) = subst (AfterSet block img a b d) (set-most block img a b d f e first) (unchanged set.BadDelay (λ (q : 12 ≡ 0). omega arith))
+      by-number f (yes e) = subst (AfterSet block img a b d) (set-lowest f e) (unchanged set.BadDelay (λ (q : 12 ≡ 0). omega arith))
       by-number f (no n) =
           let number : ℕ = answerNumber (store OnTheSpot block img (pairKey a b) (delayRecord (inOrder a b d)) .answer) in
           subst (AfterSet block img a b d) (set-fits block img a b d f n) (⊎-elim (stored f n) (not-stored f n) (same-or number 0))
 
       by-pair : Dec (ChannelsFit a b) → AfterSet block img a b d (setDelay block img a b d)
-      by-pair (no n) = subst (AfterSet block img a b d) (set-misfit block img a b d n first) (unchanged set.BadPair (λ (q : 11 ≡ 0). omega arith))
+      by-pair (no n) = subst (AfterSet block img a b d) (set-unfit n) (unchanged set.BadPair (λ (q : 11 ≡ 0). omega arith))
       by-pair (yes f) = by-number f (ℤ-discrete d mostNegative)

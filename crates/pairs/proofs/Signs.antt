@@ -11,6 +11,7 @@ use lib.IntN.{ℤ, pos, negℤ, _+ℤ_, +ℤ-invr}
 use mir.Syntax.{w32}
 use mir.Val.{SFits}
 use Rattle.lists.specs.Decide.{choose}
+use Rattle.lists.specs.Runs.{afterAll, onEach}
 use Rattle.words.specs.Bytes.{Bytes}
 use Rattle.entries.specs.Pairs.{Pair}
 use Rattle.chronicle_map.specs.Calls.{grow}
@@ -20,7 +21,7 @@ use Rattle.chronicle_map.proofs.Growing.{KeepsMap, grow-keeps}
 use Rattle.pairs.specs.declared.Asked.{Asked}
 use Rattle.pairs.specs.Pairs.{ChannelsFit, channelsFit?, pairKey, delayRecord, recordDelay, mostNegative, RecordFits, recordFits?, inOrder}
 use Rattle.pairs.specs.Delays.{fromRecord, delay, Reply, askedReply, setDelay, setNumber}
-use Rattle.pairs.specs.History.{PairCall, asks, sets, grows, numbered, replies, pairLeaves, pairRun, pairReplies, reply, NoSet, SignsKept}
+use Rattle.pairs.specs.History.{PairCall, asks, sets, grows, numbered, replies, pairLeaves, pairRun, reply, NoSet, SignsKept}
 use Rattle.pairs.proofs.Orders.{key-either, sign-either, sign-twice}
 use Rattle.pairs.proofs.Answering.{record-yes}
 use Rattle.pairs.proofs.Records.{record-back, record-fits, sign-fits, sign-not}
@@ -31,20 +32,20 @@ use Rattle.pairs.proofs.Mapped.{fromMap, ask-unfit, ask-map, AfterSet, 
 module _ (block : List ℕ) where
   reply-later : (before cs : List PairCall) (img : List ℕ) (i : ℕ)
       → reply block img (before ++ cs) (length before + i) ≡ reply block (pairRun block img before) cs i
-  unfolding pairReplies pairRun
+  unfolding onEach afterAll
   reply-later [] cs img i = rw (zero-add i)
   reply-later (c ∷ before) cs img i = rw (suc-add (length before) i) (reply-later before cs (pairLeaves block img c) i)
 
   reply-at : (before : List PairCall) (c : PairCall) (after : List PairCall) (img : List ℕ)
       → reply block img (before ++ c ∷ after) (length before) ≡ replies block (pairRun block img before) c
-  unfolding pairReplies
+  unfolding onEach
   reply-at before c after img = ap (reply block img (before ++ c ∷ after)) (sym (add-zero (length before))) ∙ reply-later before (c ∷ after) img 0
 
   -- of two calls, the second
   reply-second : (before : List PairCall) (c : PairCall) (between : List PairCall) (c′ : PairCall) (after : List PairCall) (img : List ℕ)
       → reply block img (before ++ (c ∷ (between ++ c′ ∷ after))) (length before + suc (length between))
       ≡ replies block (pairRun block (pairLeaves block (pairRun block img before) c) between) c′
-  unfolding pairReplies
+  unfolding onEach
   reply-second before c between c′ after img =
       reply-later before (c ∷ (between ++ c′ ∷ after)) img (suc (length between))
       ∙ reply-at between c′ after (pairLeaves block (pairRun block img before) c)
@@ -70,14 +71,14 @@ module _ (block : List ℕ) where
   accepted-leaves img k grows = record { bytes = known-grown img k .bytes; accepted = known-grown img k .accepted }
 
   accepted-run : (calls : List PairCall) (img : List ℕ) → AcceptedBytes block img → AcceptedBytes block (pairRun block img calls)
-  unfolding pairRun
+  unfolding afterAll
   accepted-run [] img k = k
   accepted-run (c ∷ cs) img k = accepted-run cs (pairLeaves block img c) (accepted-leaves img k c)
 
   -- with no set of the pair, its record
   same-record : (a b : ℕ) (calls : List PairCall) (img : List ℕ) → AcceptedBytes block img → NoSet a b calls
       → mapGet (mapOf block (pairRun block img calls)) (pairKey a b) ≡ mapGet (mapOf block img) (pairKey a b)
-  unfolding pairRun pairLeaves
+  unfolding afterAll pairLeaves
   same-record a b [] img k none-set = refl
   same-record a b (asks c d ∷ cs) img k none-set = same-record a b cs img k none-set
   same-record a b (sets c d x ∷ cs) img k none-set =

@@ -7,6 +7,7 @@ use lib.ListN.{length, getD}
 use lib.IntN.{ℤ, pos, negℤ, _+ℤ_}
 use mir.Syntax.{w32}
 use mir.Val.{SFits}
+use Rattle.lists.specs.Runs.{afterAll, onEach}
 use Rattle.chronicle_map.specs.Calls.{answerNumber, grow}
 use Rattle.chronicle_map.specs.Demands.{Accepted}
 use Rattle.pairs.specs.Pairs.{pairKey}
@@ -33,14 +34,12 @@ module _ (block : List ℕ) where
   pairLeaves img (sets a b d) = setDelay block img a b d .image
   pairLeaves img grows = grow block img .image
 
-  -- a list of calls, each on the image as the last one left it
-  unfoldable pub pairRun : List ℕ → List PairCall → List ℕ
-  pairRun img [] = img
-  pairRun img (c ∷ cs) = pairRun (pairLeaves img c) cs
+  -- a list of calls, each on the image as the last one left it: the image at the end, and what each call replied
+  abbrev pub pairRun : List ℕ → List PairCall → List ℕ
+  pairRun img calls = afterAll pairLeaves img calls
 
-  unfoldable pub pairReplies : List ℕ → List PairCall → List Reply
-  pairReplies img [] = []
-  pairReplies img (c ∷ cs) = replies img c ∷ pairReplies (pairLeaves img c) cs
+  abbrev pub pairReplies : List ℕ → List PairCall → List Reply
+  pairReplies img calls = onEach pairLeaves replies img calls
 
   -- the reply to the i-th call of the list, i from 0
   abbrev pub reply : List ℕ → List PairCall → ℕ → Reply

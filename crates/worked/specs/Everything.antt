@@ -1,5 +1,6 @@
 -- One name that opens every definition, for cases that are computed: `unfolding everything`.
 use Prim.Native.Nat.{ℕ}
+use Rattle.lists.specs.Runs.{afterAll, onEach}
 use Rattle.probe.specs.Removal.{stays, shift, remove as Probe·remove}
 use Rattle.entries.specs.Pairs.{pairsOf}
 use Rattle.counters.specs.Recount.{recount, settle, touched}
@@ -13,7 +14,7 @@ use Rattle.edit.specs.Edits.{find, withoutEntry, without, removedEntry, removeI
 use Rattle.chronicle_map.specs.Asked.{givenKeyFits?, givenValueFits?, afterValue, afterKey, afterExamined, asked}
 use Rattle.chronicle_map.specs.Calls.{fromFind, lookedUp, lookup, recordAt, recordLength, recordBytes}
 use Rattle.chronicle_map.specs.Calls.{removeFound, removing, remove, storeUnless, storing, store, growUnless, growing, grow}
-use Rattle.chronicle_map.specs.History.{says, leaves, toldOf, run, answers, told}
+use Rattle.chronicle_map.specs.History.{says, leaves, toldOf}
 use Rattle.layout.specs.Frame.{frameOf}
 use Rattle.walk.specs.Walk.{entryReads?, compared, tested, atSlot, overSlots, inTier, fromTier, walk}
 use Rattle.quick.specs.Quick.{openedFrame, openedBlock, opened, fromWalk, quickKey, afterOpened, quickLookup}
@@ -27,7 +28,7 @@ unfolding Image·everything stays shift Probe·remove pairsOf recount settle tou
     written slotted placeAt join later unlink isEmptyExtra unlinkEmpty noBulk emptySlots emptyTier afterNew newTiers growImage find withoutEntry
     without removedEntry removeImage runOf noRoom placeIn onTheSpot entryIn storedEntry storeImage givenKeyFits? givenValueFits? afterValue afterKey
     afterExamined asked fromFind lookedUp lookup recordAt recordLength recordBytes removeFound removing remove storeUnless storing store growUnless
-    growing grow says leaves toldOf run answers told frameOf entryReads? compared tested atSlot overSlots inTier fromTier walk openedFrame openedBlock
+    growing grow says leaves toldOf afterAll onEach frameOf entryReads? compared tested atSlot overSlots inTier fromTier walk openedFrame openedBlock
     opened fromWalk quickKey afterOpened quickLookup isChannel? channelsFit? pairKey recordDelay recordFits? fromRecord fromLocated quickPair
     quickOpened quickDelay
 everything = 0
