@@ -13,7 +13,8 @@ use Rattle.pairs.proofs.Answering.{record-yes, wrong-number}
 use Rattle.worked.specs.Everything.{everything}
 use Rattle.worked.specs.Worked.{blockX, Case, replyNumbers, got, due, earlier}
 use Rattle.worked.specs.WorkedHome.{goingHome}
-use Rattle.worked.specs.WorkedQuick.{quickSound, quickDamaged, quickAsks, quickDelays, quickly, cases}
+use Rattle.worked.specs.WorkedQuick.{quickSound, quickDamaged, quickAsks, quickDelays, quickly}
+use Rattle.worked.specs.WorkedSame.{sameMap, cases}
 
 -- two lists whose cases are right make one
 joined : (xs ys : List Case) → map got xs ≡ map due xs → map got ys ≡ map due ys → map got (xs ++ ys) ≡ map due (xs ++ ys)
@@ -59,6 +60,14 @@ worked-quick =
     sym (λ i. map due (quickSound ++ quickDamaged ++ quickAsks)
     ++ (says (first-order i) ∷ says (other-order i) ∷ says (other-order i) ∷ says (no-delay i) ∷ []))
 
+-- ---- request A14
+
+worked-same : map got sameMap ≡ map due sameMap
+unfolding everything fieldsX blockWith blockX sameMap
+worked-same = refl
+
 pub worked : map got cases ≡ map due cases
 unfolding cases
-worked = joined (earlier ++ goingHome) quickly (joined earlier goingHome worked-earlier worked-home) worked-quick
+worked =
+    joined (earlier ++ goingHome ++ quickly) sameMap
+    (joined (earlier ++ goingHome) quickly (joined earlier goingHome worked-earlier worked-home) worked-quick) worked-same

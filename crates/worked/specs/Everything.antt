@@ -21,6 +21,7 @@ use Rattle.quick.specs.Quick.{openedFrame, openedBlock, opened, fromWalk, quick
 use Rattle.pairs.specs.Pairs.{isChannel?, channelsFit?, pairKey, recordDelay, recordFits?}
 use Rattle.pairs.specs.Delays.{fromRecord, fromLocated}
 use Rattle.pairs.specs.Quick.{quickPair, quickOpened, quickDelay}
+use Rattle.same_map.specs.SameAnswers.{beforeFirst10}
 use Rattle.image.specs.Everything.{everything as Image·everything}
 
 unfoldable pub everything : ℕ
@@ -30,5 +31,5 @@ unfolding Image·everything stays shift Probe·remove pairsOf recount settle tou
     afterExamined asked fromFind lookedUp lookup recordAt recordLength recordBytes removeFound removing remove storeUnless storing store growUnless
     growing grow says leaves toldOf afterAll onEach frameOf entryReads? compared tested atSlot overSlots inTier fromTier walk openedFrame openedBlock
     opened fromWalk quickKey afterOpened quickLookup isChannel? channelsFit? pairKey recordDelay recordFits? fromRecord fromLocated quickPair
-    quickOpened quickDelay
+    quickOpened quickDelay beforeFirst10
 everything = 0

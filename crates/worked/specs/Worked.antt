@@ -1,7 +1,7 @@
 -- The worked store X: the cases p1 to p10 of the scope and those of the requests up to A4, each an image, the calls made on it, a question
--- and what is due. WorkedQuick.antt has the one list of all cases.
+-- and what is due. WorkedSame.antt has the one list of all cases.
 use Prim.Native.Nat.{ℕ, suc}
-use mathlib.Core.List.{List, [], _∷_, _++_, map}
+use mathlib.Core.List.{List, [], _∷_, _++_, map, flatMap}
 use mathlib.Core.Bool.{true, false}
 use lib.Dec.{eqb}
 use lib.ListN.{replicate}
@@ -18,6 +18,7 @@ use Rattle.chronicle_map.specs.History.{Call, stores, removes, grows, Said, run
 use Rattle.quick.specs.Quick.{quickLookup}
 use Rattle.pairs.specs.Delays.{Reply, askedReply}
 use Rattle.pairs.specs.Quick.{quickDelay}
+use Rattle.same_map.specs.SameAnswers.{beforeFirst10}
 
 unfoldable pub blockX : List ℕ
 blockX = blockWith 1 fieldsX
@@ -130,6 +131,8 @@ pub data Asks : Type 0 where
   answered : Asks
   -- the offset and the new value of each byte that more calls change
   changes : List Call → Asks
+  -- the same calls on this image and on another one: how many come before the first 10 in either, and what each run answered
+  compares : List ℕ → List Call → Asks
 
 -- where the second list has other bytes than the first, with those, from an offset on
 abbrev pub changed : ℕ → List ℕ → List ℕ → List ℕ
@@ -145,6 +148,13 @@ signed (negsuc n) = 1 ∷ suc n ∷ []
 abbrev pub replyNumbers : Reply → List ℕ
 replyNumbers r = r .number ∷ signed (r .delay)
 
+-- what each call of a run answered: the number and a found record's bytes
+abbrev pub saidOf : List Said → List ℕ
+saidOf xs = flatMap (λ (s : Said). s .number ∷ s .bytes) xs
+
+abbrev pub comparison : List Said → List Said → List ℕ
+comparison xs ys = beforeFirst10 (λ (s : Said). s .number) xs ys ∷ saidOf xs ++ saidOf ys
+
 pub data Case : Type 0 where
   case : List ℕ → List Call → Asks → List ℕ → Case
 
@@ -157,6 +167,7 @@ reply img now calls (asksQuickly a b) = replyNumbers (askedReply (quickDelay blo
 reply img now calls (bytes at n) = cut now at n
 reply img now calls answered = map (λ (s : Said). s .number) (answers blockX img calls)
 reply img now calls (changes more) = changed 0 now (run blockX now more)
+reply img now calls (compares other more) = comparison (answers blockX now more) (answers blockX other more)
 
 abbrev pub got : Case → List ℕ
 got (case img calls q d) = reply img (run blockX img calls) calls q

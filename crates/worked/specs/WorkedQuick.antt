@@ -1,12 +1,11 @@
--- The cases of request A9 on the worked store: the quick lookup and the quick ask for a pair; and the one list of all cases.
+-- The cases of request A9 on the worked store: the quick lookup and the quick ask for a pair.
 use Prim.Native.Nat.{ℕ}
 use mathlib.Core.List.{List, [], _∷_, _++_}
 use Rattle.words.specs.Numbers.{putLe}
 use Rattle.edit.specs.declared.Policy.the-variants.{OnTheSpot}
 use Rattle.chronicle_map.specs.History.{stores, run}
 use Rattle.worked.specs.Worked.{blockX, imageX, sized, pair, after3, after5, after6, after8}
-use Rattle.worked.specs.Worked.{checks, findsQuickly, asksQuickly, Case, case, earlier}
-use Rattle.worked.specs.WorkedHome.{goingHome}
+use Rattle.worked.specs.Worked.{checks, findsQuickly, asksQuickly, Case, case}
 
 -- ---- what keys answer after p3: number, offset, length, tier and slot
 
@@ -123,8 +122,3 @@ quickDelays =
 
 unfoldable pub quickly : List Case
 quickly = quickSound ++ quickDamaged ++ quickAsks ++ quickDelays
-
--- ---- all of them
-
-unfoldable pub cases : List Case
-cases = earlier ++ goingHome ++ quickly
