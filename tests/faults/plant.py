@@ -713,6 +713,50 @@ FAULTS = [
   "        End::Empty { .. } => Ok(0),\n"),
 ]
 
+LOOKUP = "    let (number, numbers) = match find(block, image, key)? {\n"
+TAKE_OUT = "    if let Some(old) = old {\n        map.take_out(image, old);\n    }\n"
+
+# Answers that depend on a place: two stores of one map, answered by the copy alone, must show them.
+SAME_MAP = [
+ ("a lookup answers 1 for a key in the last slot", "search.rs",
+  LOOKUP,
+  LOOKUP + "        Ok(Found { tier, slot, .. }) if slot + 1 == Settings::read(block)?.slots => (number::ABSENT, [0, 0, tier.index, slot]),\n"),
+ ("a lookup answers 1 for a key in an extra tier", "search.rs",
+  LOOKUP,
+  LOOKUP + "        Ok(Found { tier, slot, .. }) if tier.header.is_none() => (number::ABSENT, [0, 0, tier.index, slot]),\n"),
+ ("a found record is a byte too short where it ends in its tier's last chunk", "search.rs",
+  LOOKUP,
+  LOOKUP + "        Ok(Found { tier, slot, entry }) if entry.value_length > 0 && entry.first_chunk + entry.chunks == Settings::read(block)?.chunks => {\n            (0, [entry.value_at, entry.value_length - 1, tier.index, slot])\n        }\n"),
+ ("a record in an extra tier is found a chunk too late", "search.rs",
+  LOOKUP,
+  LOOKUP + "        Ok(Found { tier, slot, entry }) if tier.header.is_none() && entry.value_at + entry.value_length + Settings::read(block)?.chunk_size <= image.len() => {\n            (0, [entry.value_at + Settings::read(block)?.chunk_size, entry.value_length, tier.index, slot])\n        }\n"),
+ ("a removal from an extra tier answers 1", "edit.rs",
+  "    let old = Old::from(found);\n",
+  "    let old = Old::from(found);\n    if old.tier.header.is_none() {\n        return Err(number::ABSENT);\n    }\n"),
+ ("a removal leaves the only entry of an extra tier", "edit.rs",
+  "    let old = Old::from(found);\n",
+  "    let old = Old::from(found);\n    if old.tier.header.is_none() && old.tier.entry_count(image) == 1 {\n        return Ok(());\n    }\n"),
+ ("a store that needs a free tier answers 9", "edit.rs",
+  TAKE_OUT,
+  "    if matches!(room, Room::FreeTier(_)) {\n        return Err(number::VALUE);\n    }\n" + TAKE_OUT),
+ ("a replacement that goes to another tier answers 1", "edit.rs",
+  "        map.free_if_empty(image, parts.segment, &old.tier);\n    }\n",
+  "        map.free_if_empty(image, parts.segment, &old.tier);\n        if old.tier.index != tier.index {\n            return Err(number::ABSENT);\n        }\n    }\n"),
+ ("a replacement that should go to another tier leaves the old record", "edit.rs",
+  TAKE_OUT,
+  "    if let (Some(old), Room::Chained(to, _)) = (old, &room)\n        && old.tier.index != to.index\n    {\n        return Ok(());\n    }\n" + TAKE_OUT),
+ ("a set of a delay forgets the sign in an extra tier", "pairs.rs",
+  "    let record = pair.turn(delay).to_le_bytes();\n",
+  "    let found = search::find(block, image, &pair.key)?;\n    let extra = found.is_ok_and(|found| found.tier.header.is_none());\n    let record = if extra { delay } else { pair.turn(delay) }.to_le_bytes();\n"),
+ ("an ask answers 12 for a record in an extra tier", "pairs.rs",
+  "    pair.delay_in(&image[found.entry.value_at..][..found.entry.value_length])\n",
+  "    if found.tier.header.is_none() {\n        return Err(number::DELAY);\n    }\n    pair.delay_in(&image[found.entry.value_at..][..found.entry.value_length])\n"),
+ ("a quick lookup finds in the main tier alone", "quick.rs",
+  "    let (number, numbers) = match walk(&frame, image, key)? {\n",
+  "    let (number, numbers) = match walk(&frame, image, key)? {\n        End::Key { tier, slot, .. } if tier > frame.settings.segments => (number::ABSENT, [0, 0, tier, slot]),\n"),
+]
+FAULTS += [fault + ("--same-map",) for fault in SAME_MAP]
+
 def prepare():
     os.makedirs(WORK, exist_ok=True)
     for name in ("faulty", "differential"):
@@ -734,7 +778,7 @@ def edit(name, old, new):
     open(path, "w").write(text.replace(old, new))
     return text
 
-def run_one(file, old, new):
+def run_one(file, old, new, arguments):
     path = os.path.join(WORK, "faulty/src", file)
     before = edit("faulty/src/" + file, old, new)
     try:
@@ -743,7 +787,7 @@ def run_one(file, old, new):
         if build.returncode:
             return "does not build: " + build.stderr[-900:]
         try:
-            run = subprocess.run(["target/release/differential", "--seed", SEED, "--count", COUNT],
+            run = subprocess.run(["target/release/differential", "--seed", SEED, "--count", COUNT, *arguments],
                                  cwd=os.path.join(WORK, "differential"), capture_output=True, text=True, timeout=240)
         except subprocess.TimeoutExpired:
             return "NOT FOUND: timeout"
@@ -755,15 +799,15 @@ def run_one(file, old, new):
 
 def main():
     prepare()
-    for name, file, old, new in FAULTS:
+    for name, file, old, *_ in FAULTS:
         text = open(os.path.join(WORK, "faulty/src", file)).read()
         assert text.count(old) == 1, (name, text.count(old))
     only = sys.argv[1:]
     rows = []
-    for number, (name, file, old, new) in enumerate(FAULTS, 1):
+    for number, (name, file, old, new, *arguments) in enumerate(FAULTS, 1):
         if only and str(number) not in only:
             continue
-        out = run_one(file, old, new)
+        out = run_one(file, old, new, arguments)
         where = re.search(r"again with: (.*)", out)
         what = re.search(r"difference: (.*)", out)
         told = what.group(1)[:150] if what else ("panic in the copy" if "panic" in out else out)

@@ -18,7 +18,8 @@ use crate::rng::Rng;
 use crate::settings::Size;
 use crate::tally::Tally;
 
-pub fn run(rng: &mut Rng, tally: &mut Tally) -> Outcome<()> {
+pub fn run(seed: u64, case: u64, tally: &mut Tally) -> Outcome<()> {
+    let rng = &mut Rng::for_case(seed, case);
     hashes(rng, tally)?;
     match rng.below(1000) {
         0..330 => history(rng, tally),

@@ -200,7 +200,7 @@ fn told(kind: Kind, key: &[u8], value: &[u8]) -> String {
     format!("{name} of {} bytes under {}", value.len(), short(key))
 }
 
-fn short(key: &[u8]) -> String {
+pub fn short(key: &[u8]) -> String {
     match key.len() {
         0..=16 => format!("key {key:02X?}"),
         length => format!("a key of {length} bytes, first {:02X?}", &key[..8]),

@@ -26,18 +26,20 @@ mod plan;
 mod quick;
 mod render;
 mod rng;
+mod same_map;
 mod search_ends;
 mod settings;
 mod subject;
 mod tally;
 
+use std::ops::Range;
 use std::process::ExitCode;
 use std::sync::atomic::{AtomicU64, Ordering};
 
-use rng::Rng;
+use compare::Outcome;
 use tally::Tally;
 
-const USAGE: &str = "differential [--seed N] [--count N] [--case N] [--trace]";
+const USAGE: &str = "differential [--seed N] [--count N] [--case N] [--same-map] [--trace]";
 const DEFAULT_SEED: u64 = 1;
 const DEFAULT_COUNT: u64 = 60_000;
 
@@ -46,8 +48,37 @@ struct Options {
     count: u64,
     /// Run this case alone.
     case: Option<u64>,
+    /// Compare two stores of one map alone, and the subject's answers alone.
+    same_map: bool,
     /// Tell each case before it runs, for one that ends the process.
     trace: bool,
+}
+
+/// What is done for a case of a seed.
+type Part = fn(u64, u64, &mut Tally) -> Outcome<()>;
+
+impl Options {
+    /// The second part goes through the cases again, so that what the first
+    /// finds is found at the same case as without it.
+    fn parts(&self) -> &'static [Part] {
+        match self.same_map {
+            true => &[same_map::alone],
+            false => &[cases::run, same_map::beside],
+        }
+    }
+
+    fn cases(&self) -> Range<u64> {
+        match self.case {
+            Some(case) => case..case + 1,
+            None => 0..self.count,
+        }
+    }
+
+    /// The arguments that run one case again.
+    fn again(seed: u64, same_map: bool, case: u64) -> String {
+        let same_map = if same_map { " --same-map" } else { "" };
+        format!("--seed {seed}{same_map} --case {case}")
+    }
 }
 
 fn main() -> ExitCode {
@@ -55,33 +86,43 @@ fn main() -> ExitCode {
         eprintln!("{USAGE}");
         return ExitCode::from(2);
     };
-    tell_case_on_panic(options.seed);
+    tell_case_on_panic(options.seed, options.same_map);
     let mut tally = Tally::default();
-    let cases = match options.case {
-        Some(case) => case..case + 1,
-        None => 0..options.count,
-    };
-    for case in cases {
+    for &part in options.parts() {
+        if let Err((case, difference)) = run(&options, part, &mut tally) {
+            let again = Options::again(options.seed, options.same_map, case);
+            println!("difference: {difference}");
+            println!("again with: {again}");
+            return ExitCode::FAILURE;
+        }
+    }
+    match options.same_map {
+        true => tally.print_met(),
+        false => tally.print(),
+    }
+    conclude(&options, &tally)
+}
+
+fn run(options: &Options, part: Part, tally: &mut Tally) -> Result<(), (u64, String)> {
+    for case in options.cases() {
         CASE.store(case, Ordering::Relaxed);
         if options.trace {
             eprintln!("case {case}");
         }
-        let mut rng = Rng::for_case(options.seed, case);
-        if let Err(difference) = cases::run(&mut rng, &mut tally) {
-            println!("difference: {difference}");
-            println!("again with: --seed {} --case {case}", options.seed);
-            return ExitCode::FAILURE;
-        }
+        part(options.seed, case, tally).map_err(|difference| (case, difference))?;
     }
-    tally.print();
-    conclude(&options, &tally)
+    Ok(())
 }
 
 /// A run of the default length or more must have met every number of every
 /// call and all else that is planned.
 fn conclude(options: &Options, tally: &Tally) -> ExitCode {
     let whole = options.case.is_none() && options.count >= DEFAULT_COUNT;
-    if let Some(missing) = tally.missing().filter(|_| whole) {
+    let missing = match options.same_map {
+        true => tally.missing_of_same_map(),
+        false => tally.missing(),
+    };
+    if let Some(missing) = missing.filter(|_| whole) {
         println!("did not occur: {missing}");
         return ExitCode::FAILURE;
     }
@@ -91,11 +132,12 @@ fn conclude(options: &Options, tally: &Tally) -> ExitCode {
 
 static CASE: AtomicU64 = AtomicU64::new(0);
 
-fn tell_case_on_panic(seed: u64) {
+fn tell_case_on_panic(seed: u64, same_map: bool) {
     let usual = std::panic::take_hook();
     std::panic::set_hook(Box::new(move |panic| {
         let case = CASE.load(Ordering::Relaxed);
-        println!("panic, again with: --seed {seed} --case {case}");
+        let again = Options::again(seed, same_map, case);
+        println!("panic, again with: {again}");
         usual(panic);
         std::process::exit(1);
     }));
@@ -106,6 +148,7 @@ fn read_options() -> Option<Options> {
         seed: DEFAULT_SEED,
         count: DEFAULT_COUNT,
         case: None,
+        same_map: false,
         trace: false,
     };
     let mut arguments = std::env::args().skip(1);
@@ -115,6 +158,7 @@ fn read_options() -> Option<Options> {
             "--seed" => options.seed = number()?,
             "--count" => options.count = number()?,
             "--case" => options.case = Some(number()?),
+            "--same-map" => options.same_map = true,
             "--trace" => options.trace = true,
             _ => return None,
         }

@@ -10,6 +10,12 @@ impl Rng {
         Rng(of_case.next())
     }
 
+    /// Another stream for its two stores of one map: what is drawn there
+    /// leaves the first as it is.
+    pub fn for_same_map(seed: u64, case: u64) -> Rng {
+        Rng::for_case(seed ^ 0xA24B_AED4_963E_E407, case)
+    }
+
     pub fn next(&mut self) -> u64 {
         self.0 = self.0.wrapping_add(0x9E37_79B9_7F4A_7C15);
         let mut z = self.0;

@@ -12,6 +12,7 @@ use crate::lengths;
 use crate::low_marks;
 use crate::on_the_spot;
 use crate::quick;
+use crate::same_map;
 use crate::search_ends;
 
 /// The calls, and the numbers that each may answer.
@@ -40,8 +41,8 @@ pub struct Tally {
     /// How often each planned fault was made.
     pub faults: BTreeMap<&'static str, u64>,
     /// How often what is planned for lengths, low marks, searches, the kinds
-    /// of store, further bulks, empty tiers, the pair calls and the quick ones
-    /// came up.
+    /// of store, further bulks, empty tiers, the pair calls, the quick ones and
+    /// two stores of one map came up.
     pub met: BTreeMap<String, u64>,
 }
 
@@ -53,6 +54,21 @@ impl Tally {
         }
         self.counts[call][number as usize] += 1;
         Ok(())
+    }
+
+    /// Counts what came up.
+    pub fn meet(&mut self, events: Vec<String>) {
+        for event in events {
+            *self.met.entry(event).or_default() += 1;
+        }
+    }
+
+    /// Adds what another has counted of answers.
+    pub fn add(&mut self, other: Tally) {
+        let counts = self.counts.iter_mut().flatten();
+        for (count, more) in counts.zip(other.counts.iter().flatten()) {
+            *count += more;
+        }
     }
 
     /// A number that a call may answer and has not, or something planned
@@ -81,6 +97,13 @@ impl Tally {
             .chain(faults.map(str::to_string))
             .chain(planned)
             .next()
+            .or_else(|| self.missing_of_same_map())
+    }
+
+    /// Something planned for two stores of one map that did not come up.
+    pub fn missing_of_same_map(&self) -> Option<String> {
+        let mut planned = same_map::planned().into_iter();
+        planned.find(|name| !self.met.contains_key(name))
     }
 
     pub fn print(&self) {
@@ -101,6 +124,10 @@ impl Tally {
         for (fault, count) in &self.faults {
             println!("{count:>6} times {fault}");
         }
+        self.print_met();
+    }
+
+    pub fn print_met(&self) {
         for (what, count) in &self.met {
             println!("{count:>6} times {what}");
         }

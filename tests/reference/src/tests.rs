@@ -12,6 +12,7 @@ mod pairs;
 mod quick;
 mod quick_asks;
 mod quick_walk;
+mod same_map;
 mod search_end;
 mod store_kinds;
 mod worked_store;
