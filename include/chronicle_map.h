@@ -26,6 +26,12 @@
  *
  * Beyond that nothing is asked. The bytes may be any bytes, the lengths any lengths, and n, the channels and a
  * delay any numbers: where they are wrong the call says so by its number.
+ *
+ * Two stores of one map
+ * ---------------------
+ * Two images that the check accepts under one block, with the same keys and records in them, may differ in every
+ * place and in the order of their entries. The same lookups, stores of both kinds, removals, asks and sets, made in
+ * the same order on both, return the same numbers, records and delays until one of the two returns 10.
  */
 #ifndef CHRONICLE_MAP_H
 #define CHRONICLE_MAP_H

@@ -9,6 +9,9 @@
 //! the image is. They answer as the other calls do on an image that [`check`] accepted and that only this library's calls wrote
 //! to since: so check a copy once, when it arrives, and then ask quickly.
 //!
+//! Two accepted images under one block with the same keys and records, wherever these stand in them, answer the same
+//! lookups, stores, removals, asks and sets alike, but for places, until one of the two answers [`Refusal::Full`].
+//!
 //! ```no_run
 //! # fn calls(block: &[u8], image: &mut [u8]) -> Result<(), chronicle_map::Refusal> {
 //! chronicle_map::store(block, image, &[1, 2], &16i32.to_le_bytes())?;

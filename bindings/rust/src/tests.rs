@@ -529,6 +529,32 @@ fn a_quick_ask_refuses_a_record_that_is_no_delay() {
     }
 }
 
+// The same two pairs, stored the other way round: only places differ.
+#[test]
+fn two_stores_of_one_map_answer_alike() {
+    let (block, mut one) = pairs();
+    let mut other = one.clone();
+    for key in [[1, 2], [2, 1]] {
+        assert_eq!(remove(block, &mut other, &key), Ok(true));
+    }
+    for (key, delay) in [([2, 1], -16i32), ([1, 2], 16)] {
+        let record = delay.to_le_bytes();
+        assert_eq!(store_tight(block, &mut other, &key, &record), Ok(()));
+    }
+    let place = |image: &[u8]| lookup(block, image, &[1, 2]).map(Located::range);
+    assert_eq!(place(&one), Ok(Some(236..240)));
+    assert_eq!(place(&other), Ok(Some(244..248)));
+    for image in [&mut one, &mut other] {
+        assert_eq!(set_delay(block, image, 3, 1, 7), Ok(()));
+        assert_eq!(delay(block, image, 1, 3), Ok(Some(-7)));
+        assert_eq!(stored(block, image, [2, 1]), Some(-16));
+        assert_eq!(remove(block, image, &[2, 1]), Ok(true));
+        assert_eq!(remove(block, image, &[2, 1]), Ok(false));
+        assert_eq!(store(block, image, &[1, 2], &[9; 29]), Err(Refusal::Value));
+        assert_eq!(delay(block, image, 2, 1), Ok(Some(-16)));
+    }
+}
+
 #[test]
 fn published_hashes() {
     assert_eq!(xxh64(b""), 0xef46db3751d8e999);
