@@ -1,5 +1,5 @@
 //! Two stores of one map under one settings block, made by different
-//! histories. The reference makes them, so that a fault of the subject can
+//! histories. The subject has no part in it, so that a fault of its own can
 //! only show in the list of calls.
 
 mod maker;
