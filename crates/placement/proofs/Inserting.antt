@@ -14,11 +14,12 @@ use Rattle.layout.specs.declared.Shape.{Shape}
 use Rattle.layout.specs.Places.{tier, slot, put, putMarks, chunkAt}
 use Rattle.layout.specs.Frame.{Image}
 use Rattle.probe.specs.Table.{Table, Empty, Good, slotTotal}
+use Rattle.probe.specs.Counting.{oneAt, count}
 use Rattle.probe.specs.Search.{room}
 use Rattle.probe.proofs.Table.{Lawful}
 use Rattle.probe.proofs.Search.{room-empty}
 use Rattle.probe.proofs.Insertion.{insert-totals, insert-good}
-use Rattle.probe.proofs.Has.{one-at, count, inserted-empty}
+use Rattle.probe.proofs.Has.{inserted-empty}
 use Rattle.entries.specs.Keys.{start, slotKey}
 use Rattle.entries.specs.Stored.{entryBytes, chunksFor}
 use Rattle.entries.specs.Live.{slotAt}
@@ -36,11 +37,11 @@ use Rattle.placement.proofs.Filling.{wrote-image, wrote-slot}
 
 -- ---- each slot is empty or full
 
-one-or-full : (x : ℕ) → one-at 0 x + ifFull (λ v. 1) x ≡ 1
-unfolding one-at ifFull
-one-or-full x = by-test (eqb x 0) (λ e. rw (e, one-at, ifFull)) (λ e. rw (e, one-at, ifFull))
+one-or-full : (x : ℕ) → oneAt 0 x + ifFull (λ v. 1) x ≡ 1
+unfolding oneAt ifFull
+one-or-full x = by-test (eqb x 0) (λ e. rw (e, oneAt, ifFull)) (λ e. rw (e, oneAt, ifFull))
 
-pub empty-and-full : {M : Type 0} (𝓣 : Table M) (m : M) (n : ℕ) → slotTotal 𝓣 (one-at 0) m n + slotTotal 𝓣 (ifFull (λ v. 1)) m n ≡ n
+pub empty-and-full : {M : Type 0} (𝓣 : Table M) (m : M) (n : ℕ) → slotTotal 𝓣 (oneAt 0) m n + slotTotal 𝓣 (ifFull (λ v. 1)) m n ≡ n
 unfolding slotTotal
 empty-and-full 𝓣 m zero = refl
 empty-and-full 𝓣 m (suc n) = omega (arith, one-or-full (𝓣 .get m n), empty-and-full 𝓣 m n)

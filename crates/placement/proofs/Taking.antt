@@ -11,7 +11,8 @@ use Rattle.lists.proofs.Lists.{in-span}
 use Rattle.lists.proofs.Members.{first-fails}
 use Rattle.layout.specs.declared.Shape.{Shape}
 use Rattle.probe.proofs.Table.{slotTotal-has}
-use Rattle.probe.proofs.Has.{one-at, one-at-same}
+use Rattle.probe.specs.Counting.{oneAt}
+use Rattle.probe.proofs.Has.{oneAt-same}
 use Rattle.entries.specs.Live.{slotAt}
 use Rattle.search.specs.Search.{slotsOf}
 use Rattle.search.specs.Rules.{SomeEmpty}
@@ -78,11 +79,11 @@ module _ (z : Shape) (full : ℕ → ℕ) (isClear : ℕ → ℕ → Bool) (n : 
 pub some-empty-few : (z : Shape) (img : List ℕ) (t : ℕ) → SomeEmpty z img t → fullIn z img t + 1 ≤ z .settings .slots
 some-empty-few z img t empty =
     let j : ℕ = empty .0 in
-    let one : one-at 0 (slotAt z img t j) ≡ 1 = rw (empty .1 .1) (one-at-same 0) in
+    let one : oneAt 0 (slotAt z img t j) ≡ 1 = rw (empty .1 .1) (oneAt-same 0) in
     omega (
       arith,
       full-total z img t,
       empty-and-full (slotsOf z t) img (z .settings .slots),
-      slotTotal-has (slotsOf z t) (one-at 0) img (z .settings .slots) j (empty .1 .0),
+      slotTotal-has (slotsOf z t) (oneAt 0) img (z .settings .slots) j (empty .1 .0),
       one,
     )

@@ -2,6 +2,7 @@
 pub mod Ring
 pub mod Table
 pub mod Search
+pub mod Seeking
 pub mod Insertion
 pub mod Shifting
 pub mod Removal

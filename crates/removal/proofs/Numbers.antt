@@ -10,9 +10,10 @@ use Rattle.layout.specs.declared.Shape.{Shape}
 use Rattle.layout.specs.Tiers.{IsTier}
 use Rattle.layout.specs.Frame.{Image}
 use Rattle.probe.specs.Table.{Empty, Good, slotTotal}
+use Rattle.probe.specs.Counting.{oneAt}
 use Rattle.probe.proofs.Table.{Lawful, slotTotal-has, slotTotal-found, slotTotal-two, slotTotal-once}
 use Rattle.probe.proofs.Removal.{Removed, removed}
-use Rattle.probe.proofs.Has.{one-at, one-at-same, one-at-pos, removed-empty}
+use Rattle.probe.proofs.Has.{oneAt-same, oneAt-pos, removed-empty}
 use Rattle.entries.specs.Live.{slotAt, chunkOf}
 use Rattle.search.specs.Search.{slotsOf}
 use Rattle.search.specs.Rules.{chunksAt, SomeEmpty, TierSlotsFit}
@@ -25,16 +26,16 @@ use Rattle.removal.proofs.Slots.{cleared, cleared-image, cleared-slot}
 
 -- 1 where a full slot holds v
 abbrev is-it : ℕ → ℕ → ℕ
-is-it v = ifFull (one-at v)
+is-it v = ifFull (oneAt v)
 
 is-it-same : (v x : ℕ) → v ≢ 0 → x ≡ v → is-it v x ≡ 1
-is-it-same v x ne e = ap (is-it v) e ∙ full-is (one-at v) v ne ∙ one-at-same v
+is-it-same v x ne e = ap (is-it v) e ∙ full-is (oneAt v) v ne ∙ oneAt-same v
 
 is-it-pos : (v x : ℕ) → 0 < is-it v x → x ≡ v
 is-it-pos v x h =
     ⊎-elim
-    (λ (e : x ≡ 0). absurd (omega (arith, ap (is-it v) e, empty-is (one-at v) 0 refl)))
-    (λ (e : x ≢ 0). one-at-pos v x (omega (arith, full-is (one-at v) x e)))
+    (λ (e : x ≡ 0). absurd (omega (arith, ap (is-it v) e, empty-is (oneAt v) 0 refl)))
+    (λ (e : x ≢ 0). oneAt-pos v x (omega (arith, full-is (oneAt v) x e)))
     (same-or x 0)
 
 is-it-small : (v x : ℕ) → v ≢ 0 → is-it v x ≤ 1
@@ -114,7 +115,7 @@ module _ {z : Shape} {img : List ℕ} {s t j c n : ℕ} (w : Removable z img s t
       let there : 0 < slotTotal (slotsOf z t) (is-it v) new slots =
       omega (arith, slotTotal-has (slotsOf z t) (is-it v) new slots k hk, is-it-same v v fk refl) in
       let r : (i : ℕ) × (i < slots) × (0 < is-it v (slotAt z img t i)) =
-      slotTotal-found (slotsOf z t) (is-it v) img slots (omega (arith, sums (one-at v))) in
+      slotTotal-found (slotsOf z t) (is-it v) img slots (omega (arith, sums (oneAt v))) in
       (r .0, r .1, sym (is-it-pos v (slotAt z img t (r .0)) (r .2)))
 
   -- a number that stood in one slot only stands in one slot only
@@ -126,5 +127,5 @@ module _ {z : Shape} {img : List ℕ} {s t j c n : ℕ} (w : Removable z img s t
       (λ (e : i ≢ k).
       let few : slotTotal (slotsOf z t) (is-it v) img slots ≤ 1 =
       slotTotal-once (slotsOf z t) (is-it v) img slots (λ x. is-it-small v x ne) (λ a b ha hb fa fb. one a b ha hb (is-it-pos v _ fa) (is-it-pos v _ fb)) in
-      absurd (omega (arith, slotTotal-two (slotsOf z t) (is-it v) new slots i k hi hk e, is-it-same v _ ne ei, is-it-same v _ ne ek, sums (one-at v), few)))
+      absurd (omega (arith, slotTotal-two (slotsOf z t) (is-it v) new slots i k hi hk e, is-it-same v _ ne ei, is-it-same v _ ne ek, sums (oneAt v), few)))
       (same-or i k)

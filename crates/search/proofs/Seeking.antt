@@ -3,13 +3,11 @@ use Prim.Native.Nat.{ℕ, _+_, _-_, _≤_, _<_}
 use mathlib.Core.List.{List, [], _∷_, _++_, append-nil}
 use mathlib.Core.Path.{_≡_, refl, ap, sym, _∙_}
 use mathlib.Core.Logic.{_≢_}
-use mathlib.Core.Bool.{Bool, true, false}
+use mathlib.Core.Bool.{true, false}
 use native.Mathlib.Omega.{arith}
-use lib.Dec.{eqb}
 use lib.ListN.{length}
 use lib.Seq.{append-snoc}
 use borrow.Author.Tests.{eq-eqb, ne-eqb}
-use Rattle.lists.specs.Cases.{by-test}
 use Rattle.lists.specs.Quantify.{Below, Every}
 use Rattle.words.specs.Bytes.{same, cut}
 use Rattle.settings.specs.declared.Settings.{Settings}
@@ -18,10 +16,8 @@ use Rattle.layout.specs.Tiers.{tiers, IsTier}
 use Rattle.layout.specs.Frame.{Framed}
 use Rattle.chains.specs.Chains.{chain, nextOf}
 use Rattle.chains.proofs.Along.{AlongChain, chain-starts, chain-ends, chain-out, chain-splits, chain-in, chain-turns}
-use Rattle.probe.specs.Ring.{next, dist}
-use Rattle.probe.specs.Search.{probe, seek, ends}
-use Rattle.probe.proofs.Ring.{next-lt, dist-lt, dist-nearer}
-use Rattle.probe.proofs.Search.{probe-out, probe-stops, probe-goes}
+use Rattle.probe.specs.Ring.{next}
+use Rattle.probe.proofs.Seeking as probe
 use Rattle.entries.specs.declared.Entry.{Entry}
 use Rattle.entries.specs.declared.Stored.the-variants.{Whole, Broken}
 use Rattle.entries.specs.Keys.{segmentOf, lookupKey, start, slotKey, slotChunk}
@@ -55,45 +51,29 @@ module _ (z : Shape) (img key : List ℕ) (t : ℕ) where
         let w′ : stored z img t (slotChunk settings v) ≡ Whole x = ap (stored z img t) (sym ec) ∙ w in
         rw (eq-eqb (slotKey settings v) (lookupKey settings key) (k ∙ e), hits, w′)
 
-  -- ---- the loop of `seek`
+  -- ---- the loop of `seek`, over the tier's slots as a table
 
-  abbrev stop : ℕ → Bool
-  stop = ends (slotsOf z t) (hits z img key t) img
-
-  -- each empty slot is among the slots that are left
-  pub record Seeking (i left : ℕ) : Type 0 where
-    pub lt : i < slots
-    pub is : probe slots stop left i ≡ seekIn z img key t
-    pub ahead : (k : ℕ) → k < slots → slotAt z img t k ≡ 0 → dist slots i k < left
+  abbrev pub Seeking : ℕ → ℕ → Type 0
+  Seeking = probe.Seeking (slotsOf z t) (hits z img key t) img (start settings (lookupKey settings key))
 
   pub seek-starts : (i lookup : ℕ) → lookup ≡ lookupKey settings key → i ≡ start settings lookup → i < slots → Seeking i slots
-  unfolding seekIn seek
-  seek-starts i lookup e q h =
-      record { lt = h; is = ap (probe slots stop slots) (q ∙ ap (start settings) e); ahead = λ k hk _. dist-lt slots h hk }
+  seek-starts i lookup e q h = probe.seek-starts (slotsOf z t) (hits z img key t) img _ i (q ∙ ap (start settings) e) h
 
   module _ {i left : ℕ} (w : Seeking i left) where
-    -- the slot is empty, or it stands for the key
-    pub seek-empty : (v : ℕ) → v ≡ slotAt z img t i → v ≡ 0 → i ≡ seekIn z img key t
-    seek-empty v e q = sym (probe-stops slots stop left i (rw (eq-eqb (slotAt z img t i) 0 (sym e ∙ q)))) ∙ w .is
+    module _ (v : ℕ) (ev : v ≡ slotAt z img t i) where
+      -- the slot is empty, or it stands for the key
+      pub seek-empty : v ≡ 0 → i ≡ seekIn z img key t
+      unfolding seekIn
+      seek-empty e = probe.seek-empty (slotsOf z t) (hits z img key t) img _ w v ev e
 
-    pub seek-found : (v : ℕ) → v ≡ slotAt z img t i → hits z img key t v ≡ true → i ≡ seekIn z img key t
-    seek-found v e q =
-        let h : hits z img key t (slotAt z img t i) ≡ true = ap (hits z img key t) (sym e) ∙ q in
-        let s : stop i ≡ true = by-test (eqb (slotAt z img t i) 0) (λ b. rw b) (λ b. rw (b, h)) in
-        sym (probe-stops slots stop left i s) ∙ w .is
+      pub seek-found : hits z img key t v ≡ true → i ≡ seekIn z img key t
+      unfolding seekIn
+      seek-found h = probe.seek-found (slotsOf z t) (hits z img key t) img _ w v ev h
 
     pub seek-turns : Framed z (length img) → (v : ℕ) → v ≡ slotAt z img t i → v ≢ 0 → hits z img key t v ≡ false → 0 < left
         → (j : ℕ) → j ≡ next slots i → Seeking j (left - 1)
-    seek-turns fr v e n q pos j ej =
-        let h : hits z img key t (slotAt z img t i) ≡ false = ap (hits z img key t) (sym e) ∙ q in
-        let s : stop i ≡ false = rw (ne-eqb (slotAt z img t i) 0 (λ x. n (e ∙ x)), h) in
-        record {
-          lt = rw ej (next-lt slots (w .lt));
-          is = ap (probe slots stop (left - 1)) ej ∙ sym (probe-goes slots stop left (left - 1) i (omega arith) s) ∙ w .is;
-          ahead = λ k hk z₀.
-              let other : i ≢ k = λ (x : i ≡ k). n (e ∙ ap (slotAt z img t) x ∙ z₀) in
-              rw ej (omega (arith, w .ahead k hk z₀, dist-nearer slots (w .lt) hk (omega (arith, fr .valid .slots)) other));
-        }
+    seek-turns fr v ev n h pos j ej =
+        probe.seek-turns (slotsOf z t) (hits z img key t) img _ w v ev (omega (arith, fr .valid .slots)) n h pos j ej
 
     -- ---- what it answers
 
@@ -110,7 +90,8 @@ module _ (z : Shape) (img key : List ℕ) (t : ℕ) where
 
     -- no slot is left, so none is empty
     pub seek-ends-out : left ≤ 0 → Holds i ≡ soughtIn z img key t
-    seek-ends-out h = ends-full (sym (probe-out slots stop left i h) ∙ w .is) (λ q. omega (arith, w .ahead i (w .lt) q))
+    unfolding seekIn
+    seek-ends-out h = ends-full (probe.seek-out (slotsOf z t) (hits z img key t) img _ w h) (λ q. omega (arith, w .ahead i (w .lt) q))
 
 -- ---- the loop of `search`
 
