@@ -6,12 +6,9 @@ use native.Mathlib.Omega.{arith}
 use lib.ListN.{length}
 use Rattle.lists.proofs.Decides.{choose-no, choose-yes}
 use Rattle.layout.specs.declared.Shape.{Shape}
-use Rattle.layout.specs.Frame.{Image}
 use Rattle.chains.specs.Chains.{chained}
 use Rattle.entries.specs.Live.{live}
-use Rattle.search.specs.Search.{ChainTiers}
 use Rattle.search.specs.Rules.{EntriesFit, entriesFit?}
-use Rattle.search.proofs.Fitting.{all-right, entries-land}
 use Rattle.chunks.specs.Chunks.{ChunksFit, chunksFit?, markedChunks}
 use Rattle.contents.specs.declared.Contents.{Contents}
 use Rattle.contents.specs.declared.Contents.the-variants.{Fit, BadChunks, BadEntries}
@@ -31,14 +28,13 @@ module _ (z : Shape) (img : List ℕ) where
 
   -- ---- as the code has it
 
-  pub contents-told : Image z img → ChainTiers z img → {a b r : Contents} → AllSay z img (z .settings .segments) a → FreeSays z img b
-      → r ≡ joined a b → r ≡ contentsOf z img
+  pub contents-told : {a b r : Contents} → AllSay z img (z .settings .segments) a → FreeSays z img b → r ≡ joined a b → r ≡ contentsOf z img
   unfolding live markedChunks chained
-  contents-told im ts {a} {b} {r} p q e =
+  contents-told {a} {b} {r} p q e =
       told r
       (says-as
-      (λ f. all-right z img im ts (λ s h t m. f .0 s h t m .slotsFit) (λ s h t m. f .0 s h t m .lands))
-      (λ f. (λ s h t m. record { slotsFit = f .tiersFit s h t m .slotsFit; lands = entries-land z img im ts f s h t m }, tt))
+      (λ f. record { tiersFit = λ s h. f .0 s h .tiersFit; keysOnce = λ s h. f .0 s h .keysOnce })
+      (λ f. (λ s h. record { tiersFit = f .tiersFit s h; keysOnce = f .keysOnce s h }, tt))
       (λ f. record { tiersFit = f .0; freeFit = f .1 })
       (λ f. (f .tiersFit, f .freeFit))
       (omega arith) (omega arith) r (both-say e p q))

@@ -3,4 +3,5 @@ pub mod Gathering
 pub mod Covering
 pub mod OneTier
 pub mod Sums
+pub mod Chains
 pub mod Answer

@@ -5,7 +5,7 @@ use mathlib.Core.Path.{_≡_, refl, ap, sym, _∙_, subst}
 use mathlib.Core.Logic.{_≢_}
 use native.Mathlib.Omega.{arith}
 use native.Mathlib.Numerals.{add-one}
-use mathlib.Core.Bool.{not}
+use mathlib.Core.Bool.{Bool, false, not, false≢true}
 use lib.Dec.{eqb}
 use lib.ListN.{length, length-append}
 use Rattle.lists.specs.Lists.{span, below, total}
@@ -21,11 +21,14 @@ use Rattle.chains.specs.Chains.{nextOf, follow, chain, ChainFits}
 use Rattle.entries.specs.declared.Live.{Live}
 use Rattle.entries.specs.Live.{slotAt, fullSlots, liveIn, liveOf}
 use Rattle.entries.proofs.LiveLists.{length-liveIn}
+use Rattle.search.specs.Rules.{TierSlotsFit}
 use Rattle.chunks.specs.Chunks.{markedIn, TierChunksFit}
 use Rattle.chunks.proofs.Marks.{marked-all, marked-le}
 use Rattle.contents.specs.declared.Contents.{Contents}
 use Rattle.contents.specs.declared.Contents.the-variants.{Fit}
-use Rattle.contents.specs.Counting.{Says, joined, AtMost, TierHolds, TierSays, ChainSays, AllSay}
+use Rattle.contents.specs.declared.Tier.{Tier}
+use Rattle.contents.specs.Asking.{FirstKnown}
+use Rattle.contents.specs.Counting.{Says, joined, AtMost, TierSays, TierTold, TiersSay, ChainHolds, ChainSays, AllSay}
 use Rattle.contents.proofs.Saying.{both-say, says-as, says-small}
 
 module _ (z : Shape) (img : List ℕ) where
@@ -81,25 +84,27 @@ module _ (z : Shape) (img : List ℕ) where
 
   -- ---- one chain
 
-  -- the tiers of done were met, and sum is their answers taken together
-  pub record Summing (s : ℕ) (sum : Contents) (t : ℕ) : Type 0 where
+  -- the tiers of done were met, sum is their answers taken together, and apart is what the first one said of its keys
+  pub record Summing (s : ℕ) (sum : Contents) (apart : Bool) (t : ℕ) : Type 0 where
     pub done : List ℕ
+    pub alone : FirstKnown z img s apart
     pub along : Along (nextOf z img) (tiers z) (suc s) done t
-    pub says : Says (Every done (TierHolds z img s)) (Every done (TierChunksFit z img s)) (liveOver s done) (markedOver done) sum
+    pub says : Says (Every done (TierSlotsFit z img s)) (Every done (TierChunksFit z img s)) (liveOver s done) (markedOver done) sum
 
-  pub summing-starts : (s : ℕ) → Summing s (Fit 0 0) (s + 1)
+  pub summing-starts : (s : ℕ) → Summing s (Fit 0 0) false (s + 1)
   summing-starts s =
       rw (add-one s)
       (record {
         done = [];
+        alone = λ e. absurd (false≢true e);
         along = along-starts (nextOf z img) (tiers z) (suc s);
-        says = record { so = ((every-none (TierHolds z img s), every-none (TierChunksFit z img s)), (sym (none-live s), sym none-marked)) };
+        says = record { so = ((every-none (TierSlotsFit z img s), every-none (TierChunksFit z img s)), (sym (none-live s), sym none-marked)) };
       })
 
   pub tier-small : (s t : ℕ) (r : Contents) → slots ≤ 4096 → chunks ≤ 4096 → TierSays z img s t r → AtMost 4294967296 r
   tier-small s t r a b q = says-small 4294967296 (omega (arith, full-few a b t)) (omega (arith, marked-few a b t)) r q
 
-  module _ {s : ℕ} {sum : Contents} {t : ℕ} (w : Summing s sum t) where
+  module _ {s : ℕ} {sum : Contents} {apart : Bool} {t : ℕ} (w : Summing s sum apart t) where
     -- the next tier
     module _ (fits : ChainFits z img s) (ne : t ≢ 0) where
       low : length (w .done) < tiers z
@@ -112,17 +117,19 @@ module _ (z : Shape) (img : List ℕ) where
       pub summing-less : {u : ℕ} → u ≡ nextOf z img t → length (follow z img (tiers z) u) < length (follow z img (tiers z) t)
       summing-less e = along-less (w .along) (fits .ends) ne e
 
-    pub summing-turns : ChainFits z img s → t ≢ 0 → {tier next : Contents} → TierSays z img s t tier → next ≡ joined sum tier
-        → {u : ℕ} → u ≡ nextOf z img t → Summing s next u
-    summing-turns fits ne {tier} {next} q e eu =
+    pub summing-turns : ChainFits z img s → t ≢ 0 → {tier : Tier} → TierTold z img s t tier → {next : Contents}
+        → next ≡ joined sum (tier .contents) → {apart′ : Bool} → FirstKnown z img s apart′ → {u : ℕ} → u ≡ nextOf z img t
+        → Summing s next apart′ u
+    summing-turns fits ne {tier} q {next} e alone eu =
         record {
           done = w .done ++ (t ∷ []);
+          alone = alone;
           along = along-turns (w .along) (low fits ne) ne eu;
           says =
               says-as
               (λ p. every-more (w .done) t (p .0) (p .1)) (λ p. (every-first (w .done) t p, every-last (w .done) t p))
               (λ p. every-more (w .done) t (p .0) (p .1)) (λ p. (every-first (w .done) t p, every-last (w .done) t p))
-              (sym (more-live s (w .done) t)) (sym (more-marked (w .done) t)) next (both-say e (w .says) q);
+              (sym (more-live s (w .done) t)) (sym (more-marked (w .done) t)) next (both-say e (w .says) (q .says));
         }
 
     -- the counts so far are small
@@ -133,11 +140,11 @@ module _ (z : Shape) (img : List ℕ) where
         (omega (arith, marked-bound a b (w .done), w .along .low))
         sum (w .says)
 
-    pub summing-ends : t ≡ 0 → ChainSays z img s sum
+    pub summing-ends : t ≡ 0 → TiersSay z img s sum
     unfolding liveOver markedOver liveOf chain
     summing-ends e =
         let d : w .done ≡ chain z img s = along-ends (w .along) e in
-        subst (λ (x : List ℕ). Says (Every x (TierHolds z img s)) (Every x (TierChunksFit z img s)) (liveOver s x) (markedOver x) sum) d (w .says)
+        subst (λ (x : List ℕ). Says (Every x (TierSlotsFit z img s)) (Every x (TierChunksFit z img s)) (liveOver s x) (markedOver x) sum) d (w .says)
 
   -- ---- the chains one after the other
 
@@ -193,8 +200,8 @@ module _ (z : Shape) (img : List ℕ) where
           low = omega arith;
           says =
               says-as
-              (λ p. rw (add-one s) (below-suc (λ s. Every (chain z img s) (TierHolds z img s)) s (p .0) (p .1)))
-              (first-below (λ s. Every (chain z img s) (TierHolds z img s)) s)
+              (λ p. rw (add-one s) (below-suc (ChainHolds z img) s (p .0) (p .1)))
+              (first-below (ChainHolds z img) s)
               (λ p. rw (add-one s) (below-suc (λ s. Every (chain z img s) (TierChunksFit z img s)) s (p .0) (p .1)))
               (first-below (λ s. Every (chain z img s) (TierChunksFit z img s)) s)
               (more-live-first s) (more-marked-first s) next (both-say e (w .says) q);

@@ -26,6 +26,7 @@ use Rattle.entries.specs.declared.Stored.{Stored}
 use Rattle.entries.specs.declared.Stored.the-variants.{Whole, Broken}
 use Rattle.entries.specs.Stored.{valueOffset, entrySize, chunksFor, entryBytes, afterValueLength, afterKeyLength, upToChunks, stored, entryOf, keyOf, valueOf}
 use Rattle.entries.specs.Asking.{Lengths}
+use Rattle.entries.specs.Telling.{KeyPart}
 use Rattle.entries.proofs.Sizes.{chunks-enough, length-entry}
 use Rattle.words.proofs.Cuts.{drop-take, cut-take, cut-within, cut-front, cut-back, cut-room}
 
@@ -130,6 +131,23 @@ module _ (z : Shape) (img : List ℕ) (t c : ℕ) where
         keyForm = in-image _ _ _ k .1;
         valueForm = in-image _ _ _ v .1;
       }
+
+  -- what the key's length alone gives, of an entry that can be read
+  module _ (e : Entry) (h : stored z img t c ≡ Whole e) where
+    key-read : decode (upToChunks z img t) (chunkAt z t c) ≡ Number (e .keyLength) (e .keyAt)
+    unfolding stored
+    key-read = afterKeyLength-whole (upToChunks z img t) (decode (upToChunks z img t) (chunkAt z t c)) e h .0
+
+    pub key-not-refused : decode (upToChunks z img t) (chunkAt z t c) ≡ Refused → ⊥
+    key-not-refused r = let same : Number (e .keyLength) (e .keyAt) ≡ Refused = sym key-read ∙ r in let z : _≡_ {A = ℕ} 0 1 = cc in omega arith
+
+    pub key-part : {k next : ℕ} → decode (upToChunks z img t) (chunkAt z t c) ≡ Number k next
+        → KeyPart z img t c (record { at = next; length = k })
+    key-part {k} {next} r =
+        let same : Number k next ≡ Number (e .keyLength) (e .keyAt) = sym r ∙ key-read in
+        let p : k ≡ e .keyLength = cc in
+        let q : next ≡ e .keyAt = cc in
+        record { atIs = q ∙ ap (λ (x : Stored). entryOf x .keyAt) (sym h); lengthIs = p ∙ ap (λ (x : Stored). entryOf x .keyLength) (sym h) }
 
   pub whole-complete : (e : Entry) → WholeAt e → stored z img t c ≡ Whole e
   unfolding valueOffset

@@ -6,6 +6,11 @@ use lib.ListN.{length, getD}
 use Rattle.settings.specs.declared.Settings.{Settings}
 use Rattle.settings.specs.Rules.{Valid}
 use Rattle.leb128.specs.Leb128.{largestLength}
+use Rattle.layout.specs.declared.Shape.{Shape}
+use Rattle.layout.specs.FramedTier.{FramedTier}
+use Rattle.entries.specs.declared.Entry.{Entry}
+use Rattle.entries.specs.declared.Stored.the-variants.{Whole}
+use Rattle.entries.specs.Stored.{stored}
 
 -- the first n bytes at an offset are those of a key
 abbrev pub Agree : List ℕ → ℕ → List ℕ → ℕ → Type 0
@@ -31,3 +36,9 @@ pub record SlotParts (st : Settings) (lookup chunk : ℕ) : Type 0 where
   pub valid : Valid st
   pub lookupIn : lookup < 2 ^ st .keyBits
   pub chunkIn : chunk < 2 ^ st .chunkBits
+
+-- a tier with an entry at chunk c that can be read
+pub record WholeIn (z : Shape) (img : List ℕ) (t c : ℕ) : Type 0 where
+  pub tier : FramedTier z img t
+  pub entry : Entry
+  pub whole : stored z img t c ≡ Whole entry

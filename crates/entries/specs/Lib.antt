@@ -3,3 +3,4 @@ pub mod Stored
 pub mod Live
 pub mod Pairs
 pub mod Asking
+pub mod Telling

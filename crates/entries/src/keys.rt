@@ -15,7 +15,7 @@ fn ones(n: usize) -> u64
 }
 
 // The n lowest bits of x.
-fn low_bits(x: u64, n: usize) -> u64
+pub fn low_bits(x: u64, n: usize) -> u64
     requires { ⌜ n < 64 ⌝ }
     ensures { λ r. ⌜ (r ≡ x % 2 ^ n) × (r < 2 ^ n) ⌝ }
 {
@@ -31,7 +31,7 @@ fn log2(x: usize) -> usize
 }
 
 // The remainder by a power of two.
-fn remainder(x: u64, n: usize) -> usize
+pub fn remainder(x: u64, n: usize) -> usize
     requires { ⌜ PowerOfTwo n ⌝ }
     ensures { λ r. ⌜ (r ≡ x % n) × (r < n) ⌝ }
 {

@@ -18,6 +18,12 @@ pub const LONGEST_KEY: usize = 1024;
 
 pub const LONGEST_VALUE: usize = 65535;
 
+// A part of an image: where it begins, and how many bytes it has.
+pub struct Part {
+    pub at: usize,
+    pub length: usize,
+}
+
 // Where a stored entry's key and value stand in the image, and how long they are.
 pub struct Entry {
     pub keyAt: usize,

@@ -1,6 +1,7 @@
 // Entries as they stand in an image.
 use super::Entry;
 use super::Live;
+use super::Part;
 use super::Stored;
 use layout::Shape;
 use leb128::Decoded;
@@ -12,7 +13,8 @@ ghost use Rattle.words.specs.Bytes.{cut, same};
 ghost use Rattle.layout.specs.FramedTier.{FramedTier, FramedSlot};
 ghost use Rattle.entries.specs.Stored.{stored as Stored·stored, entryOf};
 ghost use Rattle.entries.specs.Live.{chunkOf, entryAt, liveAt};
-ghost use Rattle.entries.specs.Asking.{Agree, Eights};
+ghost use Rattle.entries.specs.Asking.{Agree, Eights, WholeIn};
+ghost use Rattle.entries.specs.Telling.{KeyPart};
 
 // Whether n eights of bytes at an offset are those that a key begins with.
 fn same_eights(img: &[u8], at: usize, n: usize, key: &[u8]) -> bool
@@ -72,6 +74,18 @@ pub fn stored(z: Shape, img: &[u8], t: usize, c: usize) -> Stored
         valueAt: after,
         valueLength: v,
     })
+}
+
+// Where the key of the entry at chunk c begins and how long it is, for an entry that can be read: its second length is not.
+pub fn key_part(z: Shape, img: &[u8], t: usize, c: usize) -> Part
+    requires { ⌜ WholeIn z (now img) t c ⌝ }
+    ensures { λ r. ⌜ KeyPart z (now (img .entry)) t c r ⌝ }
+{
+    let end = layout::chunk_at(z, t, z.settings.chunks);
+    let Decoded::Number(k, at) = leb128::read(&img[..end], layout::chunk_at(z, t, c)) else {
+        return Part { at: 0, length: 0 };
+    };
+    Part { at: at, length: k }
 }
 
 // The entry, with zeros where it cannot be read.

@@ -1,7 +1,7 @@
 -- Laws of numbers in a row: which of them pass a test, and which first.
 use Prim.Native.Nat.{ℕ, zero, suc, _+_, _-_, _≤_, _<_}
 use mathlib.Core.List.{List, [], _∷_, _++_, append-nil}
-use mathlib.Core.Path.{_≡_, refl, ap, _∙_}
+use mathlib.Core.Path.{_≡_, refl, ap, ap₂, sym, _∙_}
 use mathlib.Core.Bool.{Bool, true, false}
 use mathlib.Core.Logic.{⊎-elim, _≢_}
 use mathlib.Core.Option.{none, some}
@@ -116,3 +116,42 @@ those-keep p x xs h = rw (h, those)
 pub those-drop : (p : ℕ → Bool) (x : ℕ) (xs : List ℕ) → p x ≡ false → those (x ∷ xs) p ≡ those xs p
 unfolding those
 those-drop p x xs h = rw (h, those)
+
+-- the first of those from a on that pass a test: none before it passes, and the rest are those after it
+pub record FirstOf (p : ℕ → Bool) (a n j : ℕ) (rest : List ℕ) : Type 0 where
+  pub from : a ≤ j
+  pub low : j < a + n
+  pub passes : p j ≡ true
+  pub skipped : (k : ℕ) → a ≤ k → k < j → p k ≡ false
+  pub after : rest ≡ those (span (suc j) (a + n - suc j)) p
+
+-- a number that does not pass is passed over
+first-later : (p : ℕ → Bool) (a n j : ℕ) (rest : List ℕ) → p a ≡ false → FirstOf p (suc a) n j rest → FirstOf p a (suc n) j rest
+first-later p a n j rest t f =
+    let left : suc a + n - suc j ≡ a + suc n - suc j = omega arith in
+    record {
+      from = omega (arith, f .from);
+      low = omega (arith, f .low);
+      passes = f .passes;
+      skipped = λ k l h. ⊎-elim (λ (q : k ≡ a). rw q t) (λ (q : k ≢ a). f .skipped k (omega arith) h) (same-or k a);
+      after = f .after ∙ ap (λ (y : ℕ). those (span (suc j) y) p) left;
+    }
+
+pub those-first : (p : ℕ → Bool) (a n j : ℕ) (rest : List ℕ) → those (span a n) p ≡ j ∷ rest → FirstOf p a n j rest
+unfolding those span
+those-first p a zero j rest e = absurd (let z : _≡_ {A = ℕ} 0 1 = cc in omega arith)
+those-first p a (suc n) j rest e =
+    by-test (p a)
+    (λ (t : p a ≡ true).
+    let both : a ∷ those (span (suc a) n) p ≡ j ∷ rest = rw (t, those) at e in
+    let q : a ≡ j = cc in
+    let r : those (span (suc a) n) p ≡ rest = cc in
+    let left : n ≡ a + suc n - suc j = omega arith in
+    record {
+      from = omega arith;
+      low = omega arith;
+      passes = rw (← q) t;
+      skipped = λ k l h. absurd (omega arith);
+      after = sym r ∙ ap₂ (λ (x y : ℕ). those (span (suc x) y) p) q left;
+    })
+    (λ (t : p a ≡ false). first-later p a n j rest t (those-first p (suc a) n j rest (rw (t, those) at e)))

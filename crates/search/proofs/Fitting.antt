@@ -4,13 +4,10 @@ use mathlib.Core.List.{List}
 use mathlib.Core.Path.{_≡_, refl, ap, sym, _∙_, subst}
 use native.Mathlib.Omega.{arith}
 use lib.ListN.{length, take, drop}
-use Rattle.lists.specs.Quantify.{Below, Every}
 use Rattle.words.specs.Bytes.{cut}
 use Rattle.settings.specs.declared.Settings.{Settings}
 use Rattle.layout.specs.declared.Shape.{Shape}
-use Rattle.layout.specs.Frame.{Image}
 use Rattle.layout.specs.FramedTier.{FramedTier}
-use Rattle.chains.specs.Chains.{chain}
 use Rattle.entries.specs.declared.Entry.{Entry}
 use Rattle.entries.specs.declared.Stored.{Stored}
 use Rattle.entries.specs.declared.Stored.the-variants.{Whole, Broken}
@@ -23,11 +20,9 @@ use Rattle.search.specs.declared.Found.the-variants.{At, Absent}
 use Rattle.search.specs.declared.rules.Slot.{Slot}
 use Rattle.search.specs.declared.rules.Slot.the-variants.{Fits}
 use Rattle.search.specs.declared.rules.Slot.the-variants as slot
-use Rattle.search.specs.Search.{ChainTiers}
-use Rattle.search.specs.Rules.{IsWhole, Hashed, keyAt, EntryFits, SlotsFit, EntriesFit, chunksAt}
-use Rattle.search.specs.Landing.{Lands, SlotHolds, SlotSays}
+use Rattle.search.specs.Rules.{IsWhole, Hashed, keyAt, EntryFits, chunksAt}
+use Rattle.search.specs.Landing.{SlotHolds, SlotSays}
 use Rattle.search.specs.Asking.{HasKey}
-use Rattle.search.proofs.Landing.{lands-once, lands-all-reached, all-land}
 
 -- ---- the cut of a key, as the code has it: from a place up to another
 
@@ -146,20 +141,3 @@ module _ (z : Shape) (img : List ℕ) (s t j : ℕ) (r : Slot) (q : SlotSays z i
 
   pub entry-told : (c n : ℕ) → r ≡ Fits c n → SlotSays z img (EntryFits z img s t j) t j (Fits c n)
   entry-told c n e = subst (SlotSays z img (EntryFits z img s t j) t j) e q
-
--- ---- the whole image
-
-module _ (z : Shape) (img : List ℕ) (im : Image z img) (tiersOf : ChainTiers z img) where
-  open Shape z using (settings)
-  open Settings settings using (segments, slots)
-
-  pub all-right : Below segments (λ s. Every (chain z img s) (SlotsFit z img s)) → Below segments (Lands z img) → EntriesFit z img
-  all-right f l =
-      record {
-        tiersFit = λ s h t m. record { slotsFit = f s h t m; reached = lands-all-reached z img im s (tiersOf s h) (f s h) (l s h) t m };
-        keysOnce = λ s h. lands-once z img im s (tiersOf s h) (f s h) (l s h);
-      }
-
-  pub entries-land : EntriesFit z img → Below segments (Lands z img)
-  entries-land e s h =
-      all-land z img im s (tiersOf s h) (λ t m. e .tiersFit s h t m .slotsFit) (e .keysOnce s h) (λ t m. e .tiersFit s h t m .reached)

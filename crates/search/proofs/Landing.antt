@@ -1,12 +1,13 @@
--- Each full slot's key is found in that slot exactly where every slot is reached and no key has two slots.
+-- Where every slot is reached and no key has two slots, each full slot's key is found in that slot.
 use Prim.Native.Nat.{ℕ, _≤_, _<_}
 use mathlib.Core.List.{List, [], _∷_, List·Memᴰ, List·Memᴰ·head, List·Memᴰ·tail, List·Memᴰ·cases-cons, List·Memᴰ·not-nil}
 use mathlib.Core.Path.{_≡_, refl, ap, sym, _∙_}
 use mathlib.Core.Logic.{⊎-elim, _≢_}
 use mathlib.Core.Bool.{false, false≢true}
 use native.Mathlib.Omega.{arith}
-use borrow.Author.Tests.{eq-eqb}
-use Rattle.lists.specs.Cases.{same-or, lt-or}
+use lib.Dec.{eqb}
+use borrow.Author.Tests.{ne-eqb}
+use Rattle.lists.specs.Cases.{by-test, same-or, lt-or}
 use Rattle.lists.specs.Quantify.{Below, Every}
 use Rattle.settings.specs.declared.Settings.{Settings}
 use Rattle.layout.specs.declared.Shape.{Shape}
@@ -24,9 +25,10 @@ use Rattle.entries.proofs.Hashes.{start-lt}
 use Rattle.search.specs.declared.Found.the-variants.{At}
 use Rattle.search.specs.Search.{slotsOf, hits, seekIn, searchFrom, search}
 use Rattle.search.specs.Rules.{keyAt, startAt, Reached, SomeEmpty, SlotsFit, KeysOnce}
+use Rattle.search.specs.Reach.{Alone}
 use Rattle.search.specs.Landing.{Lands}
 use Rattle.search.proofs.Slots.{slots-lawful}
-use Rattle.search.proofs.Finding.{hits-key, hits-own, sought-empty, sought-holds, search-here, search-on, found-at, seekIn-lt}
+use Rattle.search.proofs.Finding.{hits-key, hits-own, sought-empty, sought-holds, search-here, search-on, seekIn-lt}
 
 module _ (z : Shape) (img : List ℕ) where
   open Shape z using (settings)
@@ -39,10 +41,6 @@ module _ (z : Shape) (img : List ℕ) where
     some-empty = record { lt = some .1 .0; free = some .1 .1 }
 
     module _ (key : List ℕ) where
-      first : First slots (ends (slotsOf z t) (hits z img key t) img) (start settings (lookupKey settings key)) (seekIn z img key t)
-      unfolding seekIn
-      first = seek-first (slotsOf z t) (slots-lawful (im .framed) t is) img _ (some .0) (start-lt (im .framed .valid) _) some-empty (hits z img key t)
-
       -- a full slot where the search ends stands for the key
       pub seek-key : slotAt z img t (seekIn z img key t) ≢ 0 → keyAt z img t (seekIn z img key t) ≡ key
       unfolding seekIn
@@ -50,14 +48,30 @@ module _ (z : Shape) (img : List ℕ) where
           hits-key z img key t (seekIn z img key t)
           (seek-hit (slotsOf z t) (slots-lawful (im .framed) t is) img _ (some .0) (start-lt (im .framed .valid) _) some-empty (hits z img key t) ne)
 
-      -- no slot on the way is empty
-      pub way-full : (k : ℕ) → k < slots
-          → dist slots (start settings (lookupKey settings key)) k < dist slots (start settings (lookupKey settings key))
-          (seekIn z img key t)
-          → slotAt z img t k ≢ 0
-      way-full k h d e =
-          let b : ends (slotsOf z t) (hits z img key t) img k ≡ false = first .before k h d in
-          false≢true (sym b ∙ rw (eq-eqb (slotAt z img t k) 0 e))
+    -- a reached slot with no slot for its key on its way is where the search for its key ends
+    pub alone-seek : (j : ℕ) → j < slots → lookupKey settings (keyAt z img t j) ≡ slotKey settings (slotAt z img t j) → Reached z img t j
+        → Alone z img t j → seekIn z img (keyAt z img t j) t ≡ j
+    unfolding seekIn
+    alone-seek j hj l reached alone =
+        let key : List ℕ = keyAt z img t j in
+        let a : ℕ = start settings (lookupKey settings key) in
+        let from : startAt z img t j ≡ a = ap (start settings) (sym l) in
+        let hs : a < slots = start-lt (im .framed .valid) (lookupKey settings key) in
+        let f : First slots (ends (slotsOf z t) (hits z img key t) img) a (seekIn z img key t) =
+        seek-first (slotsOf z t) (slots-lawful (im .framed) t is) img a (some .0) hs some-empty (hits z img key t) in
+        let r : ℕ = seekIn z img key t in
+        ⊎-elim
+        (λ (d : dist slots a j < dist slots a r).
+        absurd (false≢true (sym (f .before j hj d) ∙ by-test (eqb (slotAt z img t j) 0) (λ b. rw b) (λ b. rw (b, hits-own z img key t j (sym l) refl)))))
+        (λ (d : dist slots a r ≤ dist slots a j).
+        ⊎-elim
+        (λ (e : dist slots a r < dist slots a j).
+        let full : slotAt z img t r ≢ 0 = reached r (f .lt) (rw from d) in
+        let other : hits z img key t (slotAt z img t r) ≡ false = alone r (f .lt) (rw from e) in
+        absurd (false≢true (sym (rw (ne-eqb (slotAt z img t r) 0 full, other)) ∙ f .stops)))
+        (λ (e : dist slots a j ≤ dist slots a r). let same : dist slots a r ≡ dist slots a j = omega arith in dist-inj slots hs (f .lt) hj same)
+        (lt-or (dist slots a r) (dist slots a j)))
+        (lt-or (dist slots a j) (dist slots a r))
 
     -- every full slot is reached: the table is good
     pub good : Below slots (λ j. slotAt z img t j ≢ 0 → Reached z img t j) → Good (slotsOf z t) img
@@ -73,40 +87,19 @@ module _ (z : Shape) (img : List ℕ) where
         (ap (start settings) l)
         (hits-own z img key t j l k)
 
-    -- where the key of slot j is found in slot j, slot j is reached
-    pub lands-reached : (j : ℕ) → j < slots → slotAt z img t j ≢ 0 → lookupKey settings (keyAt z img t j) ≡ slotKey settings (slotAt z img t j)
-        → seekIn z img (keyAt z img t j) t ≡ j → Reached z img t j
-    lands-reached j hj fj l e k hk d =
-        let a : ℕ = startAt z img t j in
-        let s : start settings (lookupKey settings (keyAt z img t j)) ≡ a = ap (start settings) l in
-        ⊎-elim
-        (λ (lt : dist slots a k < dist slots a j).
-        way-full (keyAt z img t j) k hk (rw (s, e) lt))
-        (λ (ge : dist slots a j ≤ dist slots a k).
-        let same-place : k ≡ j = dist-inj slots (start-lt (im .framed .valid) (slotKey settings (slotAt z img t j))) hk hj (omega arith) in
-        rw same-place fj)
-        (lt-or (dist slots a k) (dist slots a j))
-
   -- ---- a whole chain
 
   abbrev pub AllReached : ℕ → Type 0
   AllReached s = Every (chain z img s) (λ t. Below slots (λ j. slotAt z img t j ≢ 0 → Reached z img t j))
 
   module _ (im : Image z img) (s : ℕ) (tiersOf : Every (chain z img s) (IsTier z)) (fits : Every (chain z img s) (SlotsFit z img s)) where
+    -- two slots with one key would both be where the one search ends
     pub lands-once : Lands z img s → KeysOnce z img s
     lands-once l t mt j hj fj u mu k hk fk e =
-        let a : search z img (keyAt z img t j) ≡ At t j = l t mt j hj fj in
-        let b : search z img (keyAt z img u k) ≡ At u k = l u mu k hk fk in
-        let c : At t j ≡ At u k = sym a ∙ ap (search z img) e ∙ b in
+        let both : At t j ≡ At u k = sym (l t mt j hj fj) ∙ ap (search z img) e ∙ l u mu k hk fk in
         let p : t ≡ u = cc in
         let q : j ≡ k = cc in
         (p, q)
-
-    pub lands-all-reached : Lands z img s → AllReached s
-    unfolding search
-    lands-all-reached l t mt j hj fj =
-        lands-reached im t (tiersOf t mt) (fits t mt .someEmpty) j hj fj (fits t mt .full j hj fj .hashed .lookupAgrees)
-        (found-at z img (keyAt z img t j) 0 0 (chain z img (segmentOf settings (keyAt z img t j))) t j (l t mt j hj fj) .0)
 
     -- the search through the tiers ts of the chain, of which t is one
     module _ (once : KeysOnce z img s) (reached : AllReached s) (t : ℕ) (mt : List·Memᴰ t (chain z img s)) (j : ℕ) (hj : j < slots)

@@ -16,6 +16,7 @@ use Rattle.entries.specs.Live.{slotAt}
 use Rattle.search.specs.declared.Sought.the-variants.{Holds}
 use Rattle.search.specs.Search.{seekIn, soughtIn, ChainTiers}
 use Rattle.search.specs.Rules.{keyAt, EntryFits}
+use Rattle.search.specs.Reach.{RunAt}
 
 module _ (z : Shape) (img : List ℕ) where
   open Shape z using (settings)
@@ -68,3 +69,13 @@ module _ (z : Shape) (img : List ℕ) where
   pub record FittingSlot (s t j : ℕ) : Type 0 where
     pub slot : FullSlot s t j
     pub fits : EntryFits z img s t j
+
+  -- a full slot at the end of a run of n
+  pub record RunSlot (s t j n : ℕ) : Type 0 where
+    pub slot : FullSlot s t j
+    pub run : RunAt z img t j n
+
+  -- a slot whose entry fits, with the lookup key of its key, and a tier in which it is compared
+  pub record ComparedIn (s t j lookup u : ℕ) : Type 0 where
+    pub key : KeyOfSlot s t j lookup
+    pub tierIn : IsTier z u

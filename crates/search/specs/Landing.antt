@@ -1,5 +1,5 @@
--- The rules of slots and entries as the check asks them: by searches for the stored keys. Where the slots fit one by one this says the
--- same as that every slot is reached and no key has two slots. The definitions serve contracts alone.
+-- The search for a stored key, and what is asked of one full slot. Where the slots fit and are reached, the search for each stored key ends
+-- in its own slot exactly if no key has two. The definitions serve contracts alone.
 use Prim.Native.Nat.{ℕ}
 use mathlib.Core.List.{List}
 use mathlib.Core.Path.{_≡_}
@@ -13,7 +13,7 @@ use Rattle.search.specs.declared.Found.the-variants.{At}
 use Rattle.search.specs.declared.rules.Slot.{Slot}
 use Rattle.search.specs.declared.rules.Slot.the-variants.{Fits, Broken}
 use Rattle.search.specs.Search.{seekIn, search}
-use Rattle.search.specs.Rules.{keyAt, chunksAt, EntryFits}
+use Rattle.search.specs.Rules.{keyAt, chunksAt, EntryFits, Reached}
 
 module _ (z : Shape) (img : List ℕ) where
   open Shape z using (settings)
@@ -34,9 +34,9 @@ module _ (z : Shape) (img : List ℕ) where
   abbrev pub Lands : ℕ → Type 0
   Lands s = Every (chain z img s) LandsIn
 
-  -- what is asked of one full slot of a tier in segment s's chain
+  -- what is asked of one full slot of a tier in segment s's chain, apart from the others' keys
   abbrev pub SlotHolds : ℕ → ℕ → ℕ → Type 0
-  SlotHolds s t j = EntryFits z img s t j × LandsAt t j
+  SlotHolds s t j = EntryFits z img s t j × Reached z img t j
 
   -- a full slot of which P is asked: P holds, with the chunks of its entry, or does not
   abbrev pub SlotSays : Type 0 → ℕ → ℕ → Slot → Type 0

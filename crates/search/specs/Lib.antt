@@ -1,4 +1,5 @@
 pub mod Search
 pub mod Rules
+pub mod Reach
 pub mod Landing
 pub mod Asking

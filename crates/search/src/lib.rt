@@ -1,4 +1,5 @@
 // The search for a key, and the rules of slots and entries.
+pub mod reach;
 pub mod rules;
 
 use entries::Stored;

@@ -1,23 +1,27 @@
-// The rules of slots and entries, for one slot: first its entry by itself, then that its key is found in it.
+// The rules of slots and entries, for one slot: its entry by itself, that it is reached, and, where asked, that its key is found in it.
 use entries::Entry;
 use entries::Stored;
 use entries::ValueSize;
 use layout::Shape;
 use probe::Cursor;
 ghost use mathlib.Core.Path.{_≡_};
+ghost use Prim.Native.Nat.{_≤_, _<_};
 ghost use Rattle.lists.specs.Decide.{Decides};
-ghost use Rattle.layout.specs.FramedTier.{FramedTier, FramedSlot};
+ghost use Rattle.layout.specs.FramedTier.{FramedSlot};
 ghost use Rattle.entries.specs.Stored.{keyOf};
 ghost use Rattle.search.specs.Search.{hits, seekIn};
-ghost use Rattle.search.specs.Rules.{Hashed, EntryFits, SomeEmpty, keyAt};
+ghost use Rattle.search.specs.Rules.{Hashed, EntryFits, keyAt};
+ghost use Rattle.search.specs.Reach.{Alone};
 ghost use Rattle.search.specs.Landing.{LandsAt, SlotHolds, SlotSays};
-ghost use Rattle.search.specs.Asking.{HasKey, KeyOfSlot, FullSlot, FittingSlot};
+ghost use Rattle.search.specs.Asking.{HasKey, KeyOfSlot, ComparedIn, FittingSlot, RunSlot};
 
 // A full slot that meets what is asked of it, with the chunks that its entry covers, the first and how many; or one that does not.
 pub enum Slot {
     Fits(usize, usize),
     Broken,
 }
+
+const STEPS_OF_A_KEY: usize = 16;
 
 // Whether a stored key has the hash parts that its slot and its segment say.
 fn hash_agrees(z: Shape, img: &[u8], s: usize, v: u64, e: Entry) -> bool
@@ -68,30 +72,24 @@ fn entry_fits(z: Shape, img: &[u8], s: usize, t: usize, j: usize) -> Slot
     Slot::Fits(c, n)
 }
 
-// Whether some slot of a tier is empty.
-pub fn some_empty(z: Shape, img: &[u8], t: usize) -> bool
-    requires { ⌜ FramedTier z (now img) t ⌝ }
-    ensures { λ r. ⌜ Decides r (SomeEmpty z (now (img .entry)) t) ⌝ }
-{
-    let mut j = 0;
-    while j < z.settings.slots {
-        if layout::read::slot(z, img, t, j) == 0 {
-            return true;
-        }
-        j += 1;
-    }
-    false
-}
-
-// Whether a full slot of tier t that holds v stands for the key of slot j.
-fn same_hit(z: Shape, img: &[u8], s: usize, t: usize, j: usize, v: u64, lookup: u64) -> bool
-    requires { ⌜ KeyOfSlot z (now img) s t j lookup ⌝ }
-    ensures { λ r. ⌜ r ≡ hits z (now (img .entry)) (keyAt z (now (img .entry)) t j) t v ⌝ }
+// Whether a full slot of tier u that holds v stands for the key of slot j of tier t.
+pub fn same_hit(
+    z: Shape,
+    img: &[u8],
+    s: usize,
+    t: usize,
+    j: usize,
+    lookup: u64,
+    u: usize,
+    v: u64,
+) -> bool
+    requires { ⌜ ComparedIn z (now img) s t j lookup u ⌝ }
+    ensures { λ r. ⌜ r ≡ hits z (now (img .entry)) (keyAt z (now (img .entry)) t j) u v ⌝ }
 {
     let e = entries::read::entry_at(z, img, t, j);
     let from = e.keyAt;
     let to = e.keyAt + e.keyLength;
-    super::hits(z, img, &img[from..to], lookup, t, v)
+    super::hits(z, img, &img[from..to], lookup, u, v)
 }
 
 // Whether the search for the key of the full slot j, in its tier t, ends there. The slot itself is not compared with its own key.
@@ -109,7 +107,7 @@ fn ends_at(z: Shape, img: &[u8], s: usize, t: usize, j: usize, lookup: u64) -> b
             return false;
         }
         if entries::keys::slot_key(z.settings, v) == lookup {
-            if same_hit(z, img, s, t, j, v, lookup) {
+            if same_hit(z, img, s, t, j, lookup, t, v) {
                 return false;
             }
         }
@@ -118,8 +116,41 @@ fn ends_at(z: Shape, img: &[u8], s: usize, t: usize, j: usize, lookup: u64) -> b
     true
 }
 
+// Of so many steps those that are left after a walk from slot j's start slot to slot j; none where they are too few, or where a slot on
+// the way stands for the same key. A comparison of whole keys counts as several steps.
+pub fn steps_left(z: Shape, img: &[u8], s: usize, t: usize, j: usize, steps: usize) -> usize
+    requires { ⌜ FittingSlot z (now img) s t j ⌝ }
+    ensures { λ r. ⌜ (r ≤ steps) × (0 < r → Alone z (now (img .entry)) t j) ⌝ }
+{
+    // the lookup key is the key's: the slot fits
+    let lookup = entries::keys::slot_key(z.settings, layout::read::slot(z, img, t, j));
+    let mut cursor = Cursor {
+        slot: entries::keys::start(z.settings, lookup),
+        slots: z.settings.slots,
+    };
+    let mut left = steps;
+    while cursor.slot != j {
+        if left == 0 {
+            return 0;
+        }
+        let other = layout::read::slot(z, img, t, cursor.slot);
+        if entries::keys::slot_key(z.settings, other) == lookup {
+            if same_hit(z, img, s, t, j, lookup, t, other) {
+                return 0;
+            }
+            if left <= STEPS_OF_A_KEY {
+                return 0;
+            }
+            left -= STEPS_OF_A_KEY;
+        }
+        cursor = cursor.step();
+        left -= 1;
+    }
+    left
+}
+
 // Whether the search for the key of the full slot j of tier t, whose entry fits, ends at that slot.
-fn lands(z: Shape, img: &[u8], s: usize, t: usize, j: usize) -> bool
+pub fn lands(z: Shape, img: &[u8], s: usize, t: usize, j: usize) -> bool
     requires { ⌜ FittingSlot z (now img) s t j ⌝ }
     ensures { λ r. ⌜ Decides r (LandsAt z (now (img .entry)) t j) ⌝ }
 {
@@ -137,17 +168,17 @@ fn lands(z: Shape, img: &[u8], s: usize, t: usize, j: usize) -> bool
     super::comes_to(z, img, &img[from..to], lookup, s, t)
 }
 
-// Whether the full slot j, of a tier in segment s's chain, meets the rules of slots and entries: its entry fits, and the search for
-// its key ends in it.
-pub fn slot_fits(z: Shape, img: &[u8], s: usize, t: usize, j: usize) -> Slot
-    requires { ⌜ FullSlot z (now img) s t j ⌝ }
+// Whether the full slot j, of a tier in segment s's chain, meets the rules of slots and entries apart from the others' keys: its entry fits,
+// and it is reached, since it is the last of `run` full slots without a gap.
+pub fn slot_fits(z: Shape, img: &[u8], s: usize, t: usize, j: usize, run: usize) -> Slot
+    requires { ⌜ RunSlot z (now img) s t j run ⌝ }
     ensures { λ r. ⌜ SlotSays z (now (img .entry)) (SlotHolds z (now (img .entry)) s t j) t j r ⌝ }
 {
     let found = entry_fits(z, img, s, t, j);
     let Slot::Fits(c, n) = found else {
         return Slot::Broken;
     };
-    if !lands(z, img, s, t, j) {
+    if run <= super::reach::displaced(z, img, t, j) {
         return Slot::Broken;
     }
     Slot::Fits(c, n)

@@ -20,12 +20,9 @@ joined-requires c κs =
 
 returns : tie.Need-returns
 returns c =
-    let p = c .before .before .before in let shared-slice-known = p .shared-slice-known in
-    let start = p .before in
-    contents-told (start .args .z) (start .args .img .now)
-    (record { bytes = λ i. omega (arith, shared-slice-known .given i); framed = start .pre .chains .framed })
-    (start .pre .chains .chainTiers)
-    (c .before .before .chained-contents .ensures .0) (c .before .free-contents .ensures) (c .joined .ensures)
+    let start = c .before .before .before .before in
+    contents-told (start .args .z) (start .args .img .now) (c .before .before .chained-contents .ensures .0) (c .before .free-contents .ensures)
+    (c .joined .ensures)
 
 pub contents-of-spec : {M : Type 1} → statement M
 contents-of-spec =

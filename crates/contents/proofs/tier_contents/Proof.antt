@@ -1,23 +1,28 @@
-use Rattle.contents.proofs.OneTier.{no-empty, slot-wrong, holds, tier-wrong, marks-wrong, tier-right}
-use Rattle.contents.proofs.Covering.{full-is}
-use Rattle.chains.proofs.Tally.{zeros-met}
-use Rattle.lists.proofs.Decides.{decided-true, decided-false}
-use borrow.Author.Tests.{not-true, not-false}
+use Prim.Native.Nat.{_<_}
+use mathlib.Core.Path.{refl}
+use mathlib.Core.Bool.{false≢true}
+use native.Mathlib.Omega.{arith}
 use lib.ListN.{length-replicate}
-use mathlib.Core.Path.{sym, _∙_}
+use Rattle.chains.proofs.Tally.{zeros-met}
+use Rattle.search.proofs.Reaching.{ends-empty, ends-full, run-starts}
+use Rattle.contents.proofs.Covering.{full-is}
+use Rattle.contents.proofs.OneTier.{no-empty, covered-broken, covered-held, holds, tier-says}
 use borrow.Author.Needs.{needs}
 use Rattle.contents.proofs.tier_contents.Statement.{statement}
 use Rattle.contents.proofs.tier_contents.Tie as tie
 
-some-empty-requires : tie.Need-some-empty-requires
-some-empty-requires c κs = search needs
+full-at-end-requires : tie.Need-full-at-end-requires
+full-at-end-requires c κs = search needs
 
 returns : tie.Need-returns
 returns c =
-    let p = c .before in let some-empty = p .some-empty in
-    let start = p .before .before in
-    no-empty (start .args .z) (start .args .img .now) (start .args .s) (start .args .t)
-    (decided-false (some-empty .result) (some-empty .ensures) (not-true _ (c .if1 .taken)))
+    let p = c .before .before in let full-at-end = p .full-at-end in
+    let args = p .before .before .args in
+    record {
+      says = no-empty (args .z) (args .img .now) (args .s) (args .t)
+          (ends-full (args .z) (args .img .now) (args .t) (full-at-end .ensures) (omega (arith, c .if1 .taken)));
+      alone = λ q. absurd (false≢true q);
+    }
 
 slice-aggregate-list-full : tie.Need-slice-aggregate-list-full
 slice-aggregate-list-full c = search needs
@@ -34,123 +39,67 @@ slice-aggregate-cover-2 c = search needs
 cover-requires : tie.Need-cover-requires
 cover-requires c κs =
     let p = c .before .before .before in let list-full = p .list-full in
-    let start = p .before .before .before .before .before in
+    let p = p .before .before in let if1 = p .if1 in
+    let p = p .before .before in let full-at-end = p .full-at-end in
+    let start = p .before .before in
+    let args = start .args in let pre = start .pre in
+    let short : full-at-end .result < args .z .settings .slots = omega (arith, full-at-end .ensures .few, if1 .left) in
     record {
-      tier = start .pre;
+      tier = pre;
       lists = list-full .ensures;
-      long = rw length-replicate (start .pre .chains .framed .valid .chunks .1);
+      begins = record { nextIs = refl; short = short; run = run-starts (args .z) (args .img .now) (args .t) (full-at-end .ensures) short };
+      long = rw length-replicate (pre .chains .framed .valid .chunks .1);
       zeros = zeros-met 4096;
     }
 
-returns-2 : tie.Need-returns-2
-returns-2 c =
-    let p = c .before .before in let cover = p .cover in
-    let start = p .before .before .before .before .before .before .before .before .before in
-    slot-wrong (start .args .z) (start .args .img .now) (start .args .s) (start .args .t)
-    (decided-false (cover .result) (cover .ensures .held) (not-true _ (c .if2 .taken)))
-
-slice-aggregate-marks-agree : tie.Need-slice-aggregate-marks-agree
-slice-aggregate-marks-agree c = search needs
-
-marks-agree-requires : tie.Need-marks-agree-requires
-marks-agree-requires c κs = search needs
-
-enum-known-marked : tie.Need-enum-known-marked
-enum-known-marked c = search needs
+enum-known-apart : tie.Need-enum-known-apart
+enum-known-apart c = search needs
 
 enum-told : tie.Need-enum-told
 enum-told c = search needs
 
+returns-2 : tie.Need-returns-2
+returns-2 c =
+    let p = c .before .before .before in let cover = p .cover in
+    let args = p .before .before .before .before .before .before .before .before .before .before .args in
+    record {
+      says = covered-broken (args .z) (args .img .now) (args .s) (args .t) _ _ (cover .result) (cover .ensures) (c .enum-told .given .1);
+      alone = λ q. absurd (false≢true q);
+    }
+
+slice-aggregate-tier-chunks : tie.Need-slice-aggregate-tier-chunks
+slice-aggregate-tier-chunks c = search needs
+
+tier-chunks-requires : tie.Need-tier-chunks-requires
+tier-chunks-requires c κs =
+    let p = c .before .before in let apart = p .apart in
+    let p = p .before .before .before in let cover = p .cover in
+    let p = p .before .before .before .before in let list-full = p .list-full in
+    let start = p .before .before .before .before .before .before in
+    let args = start .args in let pre = start .pre in
+    record {
+      tier = pre;
+      fullIs = full-is (args .z) (args .img .now) (args .t) (list-full .ensures);
+      counted = covered-held (args .z) (args .img .now) (args .s) (args .t) _ _ (cover .result) (cover .ensures) _ (apart .given .1) .counted;
+    }
+
 returns-3 : tie.Need-returns-3
 returns-3 c =
-    let p = c .before .before in let marks-agree = p .marks-agree in
-    let p = p .before .before in let if2 = p .if2 in
-    let p = p .before .before in let cover = p .cover in
+    let p = c .before .before .before in let apart = p .apart in
+    let p = p .before .before .before in let cover = p .cover in
     let p = p .before .before .before .before .before .before in let if1 = p .if1 in
-    let p = p .before in let some-empty = p .some-empty in
-    let start = p .before .before in
-    marks-wrong (start .args .z) (start .args .img .now) (start .args .s) (start .args .t)
-    (holds (start .args .z) (start .args .img .now) (start .args .s) (start .args .t)
-    (decided-true (some-empty .result) (some-empty .ensures) (not-false _ (if1 .left)))
-    (decided-true (cover .result) (cover .ensures .held) (not-false _ (if2 .left))))
-    (start .pre .chains .framed .valid .chunks .1) (cover .ensures .counted (not-false _ (if2 .left))) (marks-agree .result) (marks-agree .ensures)
-    (c .enum-told .given .1)
-
-count-of-requires : tie.Need-count-of-requires
-count-of-requires c κs = search needs
-
-returns-4 : tie.Need-returns-4
-returns-4 c =
-    let p = c .before .before .before .before .before .before .before in let if2 = p .if2 in
-    let p = p .before .before in let cover = p .cover in
-    let p = p .before .before .before .before in let list-full = p .list-full in
-    let p = p .before .before in let if1 = p .if1 in
-    let p = p .before in let some-empty = p .some-empty in
-    let start = p .before .before in
-    tier-wrong (start .args .z) (start .args .img .now) (start .args .s) (start .args .t)
-    (holds (start .args .z) (start .args .img .now) (start .args .s) (start .args .t)
-    (decided-true (some-empty .result) (some-empty .ensures) (not-false _ (if1 .left)))
-    (decided-true (cover .result) (cover .ensures .held) (not-false _ (if2 .left))))
-    (λ f. c .if3 .taken (c .before .count-of .ensures ∙ f .counters .entryCount ∙ sym
-    (full-is (start .args .z) (start .args .img .now) (start .args .t) (list-full .ensures))))
-
-low-mark-fits-requires : tie.Need-low-mark-fits-requires
-low-mark-fits-requires c κs = search needs
-
-returns-5 : tie.Need-returns-5
-returns-5 c =
-    let p = c .before in let low-mark-fits = p .low-mark-fits in
-    let p = p .before .before .before .before .before .before .before .before in let if2 = p .if2 in
-    let p = p .before .before in let cover = p .cover in
-    let p = p .before .before .before .before .before .before in let if1 = p .if1 in
-    let p = p .before in let some-empty = p .some-empty in
-    let start = p .before .before in
-    tier-wrong (start .args .z) (start .args .img .now) (start .args .s) (start .args .t)
-    (holds (start .args .z) (start .args .img .now) (start .args .s) (start .args .t)
-    (decided-true (some-empty .result) (some-empty .ensures) (not-false _ (if1 .left)))
-    (decided-true (cover .result) (cover .ensures .held) (not-false _ (if2 .left))))
-    (λ f. decided-false (low-mark-fits .result) (low-mark-fits .ensures) (not-true _ (c .if4 .taken)) (f .counters .lowMark))
-
-returns-6 : tie.Need-returns-6
-returns-6 c =
-    let p = c .before in let low-mark-fits = p .low-mark-fits in
-    let p = p .before in let if3 = p .if3 in
-    let p = p .before in let count-of = p .count-of in
-    let p = p .before .before in let marked = p .marked in
-    let p = p .before .before in let marks-agree = p .marks-agree in
-    let p = p .before .before in let if2 = p .if2 in
-    let p = p .before .before in let cover = p .cover in
-    let p = p .before .before .before .before in let list-full = p .list-full in
-    let p = p .before .before in let if1 = p .if1 in
-    let p = p .before in let some-empty = p .some-empty in
-    let start = p .before .before in
-    tier-right (start .args .z) (start .args .img .now) (start .args .s) (start .args .t)
-    (holds (start .args .z) (start .args .img .now) (start .args .s) (start .args .t)
-    (decided-true (some-empty .result) (some-empty .ensures) (not-false _ (if1 .left)))
-    (decided-true (cover .result) (cover .ensures .held) (not-false _ (if2 .left))))
-    (start .pre .chains .framed .valid .chunks .1) (cover .ensures .counted (not-false _ (if2 .left))) (marks-agree .result) (marks-agree .ensures) _
-    (marked .given .1) (full-is (start .args .z) (start .args .img .now) (start .args .t) (list-full .ensures))
-    (sym (count-of .ensures) ∙ if3 .left) (decided-true (low-mark-fits .result) (low-mark-fits .ensures) (not-false _ (c .if4 .left)))
+    let p = p .before .before in let full-at-end = p .full-at-end in
+    let args = p .before .before .args in
+    let short : full-at-end .result < args .z .settings .slots = omega (arith, full-at-end .ensures .few, if1 .left) in
+    let all = covered-held (args .z) (args .img .now) (args .s) (args .t) _ _ (cover .result) (cover .ensures) _ (apart .given .1) in
+    record {
+      says = tier-says (args .z) (args .img .now) (args .s) (args .t)
+          (holds (args .z) (args .img .now) (args .s) (args .t) (ends-empty (args .z) (args .img .now) (args .t) (full-at-end .ensures) short)
+          (all .held))
+          (c .tier-chunks .result) (c .tier-chunks .ensures);
+      alone = all .alone;
+    }
 
 pub tier-contents-spec : {M : Type 1} → statement M
-tier-contents-spec =
-    tie.close
-    (tie.spec
-    some-empty-requires
-    returns
-    slice-aggregate-list-full
-    list-full-requires
-    slice-aggregate-cover
-    slice-aggregate-cover-2
-    cover-requires
-    returns-2
-    slice-aggregate-marks-agree
-    marks-agree-requires
-    enum-known-marked
-    enum-told
-    returns-3
-    count-of-requires
-    returns-4
-    low-mark-fits-requires
-    returns-5
-    returns-6)
+tier-contents-spec = tie.close (tie.spec full-at-end-requires returns slice-aggregate-list-full list-full-requires slice-aggregate-cover
+    slice-aggregate-cover-2 cover-requires enum-known-apart enum-told returns-2 slice-aggregate-tier-chunks tier-chunks-requires returns-3)

@@ -15,7 +15,7 @@ add-to c =
     let p = c .before in let entry-at = p .entry-at in
     let start = p .before .before in
     let key =
-    entry-has-key (start .args .z) (start .args .img .now) (start .args .t) (start .args .j) (start .pre .slot .tier) (start .pre .fits .whole)
+    entry-has-key (start .args .z) (start .args .img .now) (start .args .t) (start .args .j) (start .pre .key .slot .tier) (start .pre .key .fits .whole)
     (entry-at .result) (entry-at .ensures) in
     omega (arith, key .keyInside, key .framed .small)
 
@@ -30,7 +30,7 @@ part-hits-end c =
     let p = c .before in let entry-at = p .entry-at in
     let start = p .before .before in
     let key =
-    entry-has-key (start .args .z) (start .args .img .now) (start .args .t) (start .args .j) (start .pre .slot .tier) (start .pre .fits .whole)
+    entry-has-key (start .args .z) (start .args .img .now) (start .args .t) (start .args .j) (start .pre .key .slot .tier) (start .pre .key .fits .whole)
     (entry-at .result) (entry-at .ensures) in
     omega (arith, key .keyInside)
 
@@ -39,8 +39,8 @@ hits-requires c κs =
     let p = c .before .before in let entry-at = p .entry-at in
     let start = p .before .before in
     record {
-      tier = start .pre .slot .tier;
-      lookupIs = start .pre .lookupIs ∙ ap (lookupKey (start .args .z .settings))
+      tier = record { framed = start .pre .key .slot .tier .framed; tierIn = start .pre .tierIn };
+      lookupIs = start .pre .key .lookupIs ∙ ap (lookupKey (start .args .z .settings))
           (sym (key-part (start .args .z) (start .args .img .now) (start .args .t) (start .args .j) (entry-at .result) (entry-at .ensures)));
     }
 
@@ -48,7 +48,7 @@ returns : tie.Need-returns
 returns c =
     let p = c .before .before .before in let entry-at = p .entry-at in
     let start = p .before .before in
-    c .hits .ensures ∙ ap (λ k. hits (start .args .z) (start .args .img .now) k (start .args .t) (start .args .v))
+    c .hits .ensures ∙ ap (λ k. hits (start .args .z) (start .args .img .now) k (start .args .u) (start .args .v))
     (key-part (start .args .z) (start .args .img .now) (start .args .t) (start .args .j) (entry-at .result) (entry-at .ensures))
 
 pub same-hit-spec : {M : Type 1} → statement M

@@ -1,0 +1,4 @@
+pub mod Sharing
+pub mod Refs
+pub mod Walk
+pub mod Asking
