@@ -53,10 +53,10 @@ differential: lib
 	cd tests/differential && $(CARGO) run --release --offline -q -- $(ARGS)
 
 # Ratios against the independent implementation and, where Debian's libxxhash-dev and liblmdb-dev are installed, against the hash of
-# the one and the lookup of the other.
+# the one and the lookup of the other; and the stack that each call needs. A part alone: ARGS="--chains --chain-calls", ARGS=--stack.
 bench: lib
 	cd tests/bench && $(CARGO) run --release --offline -q $(if $(wildcard /usr/include/xxhash.h),--features xxhash) \
-		$(if $(wildcard /usr/include/lmdb.h),--features lmdb)
+		$(if $(wildcard /usr/include/lmdb.h),--features lmdb) -- $(ARGS)
 
 # A short run of the differential tests under valgrind.
 valgrind: lib

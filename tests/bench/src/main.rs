@@ -1,12 +1,19 @@
-//! Ratios of the library's times to a baseline's, measured in one run: both sides by turns, the best of many rounds.
+//! Ratios of the library's times to a baseline's, measured in one run: both sides by turns, the best of many rounds. And the stack that
+//! its calls need.
+mod args;
+mod chain_calls;
+mod chains;
 #[cfg(feature = "lmdb")]
 mod lmdb;
+mod painted;
 mod quick;
+mod stack;
 mod store;
 
+use args::{Args, Part};
 use std::hint::black_box;
 use std::time::Instant;
-use store::{store, with_a_second_tier, Plan, Store};
+use store::{store, with_a_second_tier, Plan, Store, ORDINARY};
 
 /// The best time of a round of each side, in seconds for one call.
 fn both(rounds: usize, calls: usize, mut ours: impl FnMut(usize), mut theirs: impl FnMut(usize)) -> (f64, f64) {
@@ -151,7 +158,7 @@ fn grows(s: &Store, size: &str) {
 }
 
 fn plans() -> [(&'static str, Plan); 5] {
-    let plan = |segments, slots, chunks, chunk_size, entries| Plan { segments, slots, chunks, chunk_size, entries };
+    let plan = |segments, slots, chunks, chunk_size, entries| Plan { segments, slots, chunks, chunk_size, entries, ..ORDINARY };
     [
         ("1 KiB", plan(1, 16, 16, 16, 8)),
         ("16 KiB", plan(1, 512, 512, 16, 300)),
@@ -163,12 +170,10 @@ fn plans() -> [(&'static str, Plan); 5] {
 
 /// The check's time for each entry, as the store grows with its shape the same. All sizes by turns, so that a slow moment of the machine
 /// meets each of them.
-fn growth() {
-    println!("\n| entries | bytes | library, ns an entry | of that at 1,000 | reference, ns an entry | of that at 1,000 |\n|-|-|-|-|-|-|");
-    let plan = |segments| Plan { segments, slots: 2_048, chunks: 1_024, chunk_size: 16, entries: 1_000.min(200_000 / segments) };
-    let stores: Vec<Store> = [1, 8, 64, 256].map(|segments| store(plan(segments))).into();
+fn growth(stores: &[Store], rounds: usize, first: &str) {
+    println!("\n| entries | bytes | library, ns an entry | of that at {first} | reference, ns an entry | of that at {first} |\n|-|-|-|-|-|-|");
     let mut best = vec![(f64::MAX, f64::MAX); stores.len()];
-    for _ in 0..60 {
+    for _ in 0..rounds {
         for (s, best) in stores.iter().zip(&mut best) {
             let ours = |_| seen(chronicle_map::check(&s.block, &s.image));
             let (a, b) = both(2, 1, ours, |_| seen(reference::check(&s.block, &s.image)));
@@ -181,17 +186,34 @@ fn growth() {
     }
 }
 
-fn main() {
-    hashes();
+fn segments() {
+    let plan = |segments| Plan { segments, entries: 1_000.min(200_000 / segments), ..ORDINARY };
+    growth(&[1, 8, 64, 256].map(|segments| store(plan(segments))), 60, "1,000");
+}
+
+fn calls() {
     header("call", "reference");
     for (size, plan) in plans() {
         let s = store(plan);
-        assert!(chronicle_map::check(&s.block, &s.image).is_ok());
+        assert_eq!(chronicle_map::check(&s.block, &s.image), Ok(s.counts));
         reads(&s, size);
         edits(&s, size);
         homes(&s, plan, size);
         grows(&s, size);
     }
-    growth();
-    quick::tables();
+}
+
+fn main() {
+    let args = Args::read();
+    for part in &args.parts {
+        match part {
+            Part::Hash => hashes(),
+            Part::Calls => calls(),
+            Part::Growth => segments(),
+            Part::Quick => quick::tables(),
+            Part::Chains => chains::tables(args.limit),
+            Part::ChainCalls => chain_calls::tables(args.limit),
+            Part::Stack => stack::table(),
+        }
+    }
 }

@@ -1,5 +1,5 @@
 //! The quick calls: over stores that the check accepts, with the keys asked in a shuffled order.
-use crate::store::{key, store, store_of, Plan, Store};
+use crate::store::{key, store, store_of, Plan, Store, ORDINARY};
 use crate::{both, header, row, seen};
 use chronicle_map::{quick_delay, quick_lookup, Located, Refusal};
 use std::hint::black_box;
@@ -33,9 +33,8 @@ fn shuffled<T: Copy>(all: &[T]) -> Vec<T> {
 }
 
 fn case(size: &'static str, segments: usize, total: usize) -> Case {
-    let plan = Plan { segments, slots: 2_048, chunks: 1_024, chunk_size: 16, entries: 1_000 };
-    let store = store_of(plan, total);
-    assert_eq!(chronicle_map::check(&store.block, &store.image).map(|counts| counts.entries), Ok(total as u64));
+    let store = store_of(Plan { segments, ..ORDINARY }, total);
+    assert_eq!(chronicle_map::check(&store.block, &store.image), Ok(store.counts));
     let keys: Vec<[u8; 8]> = store.keys.iter().map(|key| key[..].try_into().expect("8 bytes")).collect();
     // The store has the first of all keys; these are far behind.
     let others: Vec<[u8; 8]> = (0..total as u64).map(|n| key((1 << 40) + n)).collect();
@@ -47,7 +46,7 @@ fn rounds(asks: usize) -> usize {
 }
 
 /// A quick lookup's numbers, as the reference gives them.
-fn numbers(answer: Result<Located, Refusal>) -> (u32, [u64; 4]) {
+pub fn numbers(answer: Result<Located, Refusal>) -> (u32, [u64; 4]) {
     match answer {
         Ok(Located::Found { offset, length, tier, slot }) => (0, [offset as u64, length as u64, tier, slot]),
         Ok(Located::Absent { tier, slot }) => (1, [0, 0, tier, slot]),
@@ -76,7 +75,7 @@ fn delay(a: u32, b: u32) -> i32 {
 
 /// All pairs of channels, asked for in both orders.
 fn delays() {
-    let mut s = store(Plan { segments: 1, slots: 1_024, chunks: 512, chunk_size: 8, entries: 0 });
+    let mut s = store(Plan { slots: 1_024, chunks: 512, chunk_size: 8, entries: 0, ..ORDINARY });
     let pairs: Vec<(u32, u32)> = (1..=32).flat_map(|a| (1..=32).map(move |b| (a, b))).filter(|(a, b)| a != b).collect();
     for &(a, b) in pairs.iter().filter(|(a, b)| a < b) {
         assert_eq!(chronicle_map::set_delay(&s.block, &mut s.image, a, b, delay(a, b)), Ok(()));

@@ -7,6 +7,7 @@ mod blocks;
 mod bulks;
 mod calls;
 mod cases;
+mod chains;
 mod channels;
 mod compare;
 mod damage;
@@ -39,7 +40,8 @@ use std::sync::atomic::{AtomicU64, Ordering};
 use compare::Outcome;
 use tally::Tally;
 
-const USAGE: &str = "differential [--seed N] [--count N] [--case N] [--same-map] [--trace]";
+const USAGE: &str =
+    "differential [--seed N] [--count N] [--case N] [--same-map | --chains] [--trace]";
 const DEFAULT_SEED: u64 = 1;
 const DEFAULT_COUNT: u64 = 60_000;
 
@@ -48,36 +50,61 @@ struct Options {
     count: u64,
     /// Run this case alone.
     case: Option<u64>,
-    /// Compare two stores of one map alone, and the subject's answers alone.
-    same_map: bool,
+    scope: Scope,
     /// Tell each case before it runs, for one that ends the process.
     trace: bool,
+}
+
+/// What a run does: all, or one part with the subject's answers alone.
+#[derive(Clone, Copy)]
+enum Scope {
+    All,
+    SameMap,
+    Chains,
 }
 
 /// What is done for a case of a seed.
 type Part = fn(u64, u64, &mut Tally) -> Outcome<()>;
 
-impl Options {
-    /// The second part goes through the cases again, so that what the first
-    /// finds is found at the same case as without it.
-    fn parts(&self) -> &'static [Part] {
-        match self.same_map {
-            true => &[same_map::alone],
-            false => &[cases::run, same_map::beside],
+impl Scope {
+    /// The later parts go through the cases again, so that what the first
+    /// finds is found at the same case as without them.
+    fn parts(self) -> &'static [Part] {
+        match self {
+            Scope::All => &[cases::run, same_map::beside, chains::beside],
+            Scope::SameMap => &[same_map::alone],
+            Scope::Chains => &[chains::alone],
         }
     }
 
+    fn flag(self) -> &'static str {
+        match self {
+            Scope::All => "",
+            Scope::SameMap => " --same-map",
+            Scope::Chains => " --chains",
+        }
+    }
+
+    fn missing(self, tally: &Tally) -> Option<String> {
+        match self {
+            Scope::All => tally.missing(),
+            Scope::SameMap => tally.missing_of(same_map::planned()),
+            Scope::Chains => tally.missing_of(chains::planned()),
+        }
+    }
+
+    /// The arguments that run one case again.
+    fn again(self, seed: u64, case: u64) -> String {
+        format!("--seed {seed}{} --case {case}", self.flag())
+    }
+}
+
+impl Options {
     fn cases(&self) -> Range<u64> {
         match self.case {
             Some(case) => case..case + 1,
             None => 0..self.count,
         }
-    }
-
-    /// The arguments that run one case again.
-    fn again(seed: u64, same_map: bool, case: u64) -> String {
-        let same_map = if same_map { " --same-map" } else { "" };
-        format!("--seed {seed}{same_map} --case {case}")
     }
 }
 
@@ -86,19 +113,19 @@ fn main() -> ExitCode {
         eprintln!("{USAGE}");
         return ExitCode::from(2);
     };
-    tell_case_on_panic(options.seed, options.same_map);
+    tell_case_on_panic(options.seed, options.scope);
     let mut tally = Tally::default();
-    for &part in options.parts() {
+    for &part in options.scope.parts() {
         if let Err((case, difference)) = run(&options, part, &mut tally) {
-            let again = Options::again(options.seed, options.same_map, case);
+            let again = options.scope.again(options.seed, case);
             println!("difference: {difference}");
             println!("again with: {again}");
             return ExitCode::FAILURE;
         }
     }
-    match options.same_map {
-        true => tally.print_met(),
-        false => tally.print(),
+    match options.scope {
+        Scope::All => tally.print(),
+        _ => tally.print_met(),
     }
     conclude(&options, &tally)
 }
@@ -118,10 +145,7 @@ fn run(options: &Options, part: Part, tally: &mut Tally) -> Result<(), (u64, Str
 /// call and all else that is planned.
 fn conclude(options: &Options, tally: &Tally) -> ExitCode {
     let whole = options.case.is_none() && options.count >= DEFAULT_COUNT;
-    let missing = match options.same_map {
-        true => tally.missing_of_same_map(),
-        false => tally.missing(),
-    };
+    let missing = options.scope.missing(tally);
     if let Some(missing) = missing.filter(|_| whole) {
         println!("did not occur: {missing}");
         return ExitCode::FAILURE;
@@ -132,11 +156,11 @@ fn conclude(options: &Options, tally: &Tally) -> ExitCode {
 
 static CASE: AtomicU64 = AtomicU64::new(0);
 
-fn tell_case_on_panic(seed: u64, same_map: bool) {
+fn tell_case_on_panic(seed: u64, scope: Scope) {
     let usual = std::panic::take_hook();
     std::panic::set_hook(Box::new(move |panic| {
         let case = CASE.load(Ordering::Relaxed);
-        let again = Options::again(seed, same_map, case);
+        let again = scope.again(seed, case);
         println!("panic, again with: {again}");
         usual(panic);
         std::process::exit(1);
@@ -148,7 +172,7 @@ fn read_options() -> Option<Options> {
         seed: DEFAULT_SEED,
         count: DEFAULT_COUNT,
         case: None,
-        same_map: false,
+        scope: Scope::All,
         trace: false,
     };
     let mut arguments = std::env::args().skip(1);
@@ -158,7 +182,8 @@ fn read_options() -> Option<Options> {
             "--seed" => options.seed = number()?,
             "--count" => options.count = number()?,
             "--case" => options.case = Some(number()?),
-            "--same-map" => options.same_map = true,
+            "--same-map" => options.scope = Scope::SameMap,
+            "--chains" => options.scope = Scope::Chains,
             "--trace" => options.trace = true,
             _ => return None,
         }

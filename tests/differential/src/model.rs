@@ -27,6 +27,7 @@ pub struct Draft {
     pub bytes: Vec<u8>,
 }
 
+#[derive(Clone)]
 pub struct Model {
     pub plan: Plan,
     /// The tiers of each segment, in chain order.

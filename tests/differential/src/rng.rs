@@ -16,6 +16,11 @@ impl Rng {
         Rng::for_case(seed ^ 0xA24B_AED4_963E_E407, case)
     }
 
+    /// And another for its full chains.
+    pub fn for_chains(seed: u64, case: u64) -> Rng {
+        Rng::for_case(seed ^ 0x9FB2_1C65_1E98_DF25, case)
+    }
+
     pub fn next(&mut self) -> u64 {
         self.0 = self.0.wrapping_add(0x9E37_79B9_7F4A_7C15);
         let mut z = self.0;

@@ -188,7 +188,7 @@ impl Plan {
     }
 }
 
-fn gap(rng: &mut Rng, most: usize) -> usize {
+pub fn gap(rng: &mut Rng, most: usize) -> usize {
     if rng.percent(60) {
         0
     } else {

@@ -3,6 +3,7 @@
 use std::collections::BTreeMap;
 
 use crate::bulks;
+use crate::chains;
 use crate::channels;
 use crate::compare::Outcome;
 use crate::damage::{DAMAGES, WALK_DAMAGES};
@@ -41,8 +42,8 @@ pub struct Tally {
     /// How often each planned fault was made.
     pub faults: BTreeMap<&'static str, u64>,
     /// How often what is planned for lengths, low marks, searches, the kinds
-    /// of store, further bulks, empty tiers, the pair calls, the quick ones and
-    /// two stores of one map came up.
+    /// of store, further bulks, empty tiers, the pair calls, the quick ones,
+    /// two stores of one map and full chains came up.
     pub met: BTreeMap<String, u64>,
 }
 
@@ -97,12 +98,13 @@ impl Tally {
             .chain(faults.map(str::to_string))
             .chain(planned)
             .next()
-            .or_else(|| self.missing_of_same_map())
+            .or_else(|| self.missing_of(same_map::planned()))
+            .or_else(|| self.missing_of(chains::planned()))
     }
 
-    /// Something planned for two stores of one map that did not come up.
-    pub fn missing_of_same_map(&self) -> Option<String> {
-        let mut planned = same_map::planned().into_iter();
+    /// Something planned that did not come up.
+    pub fn missing_of(&self, planned: Vec<String>) -> Option<String> {
+        let mut planned = planned.into_iter();
         planned.find(|name| !self.met.contains_key(name))
     }
 

@@ -111,6 +111,14 @@ impl BitSet {
         (64 * word + bits.trailing_zeros() as usize).min(self.size)
     }
 
+    /// How many places at the end are in the set without a gap.
+    pub fn run_at_end(&self) -> usize {
+        let from_the_end = (0..self.size).rev();
+        from_the_end
+            .take_while(|place| self.words[place / 64] >> (place % 64) & 1 == 1)
+            .count()
+    }
+
     /// The lowest run of `count` places outside the set.
     pub fn clear_run(&self, count: usize) -> Option<usize> {
         let mut first = self.next_clear(0);

@@ -4,8 +4,8 @@ use crate::bits::BitSet;
 use crate::bytes::all_zero;
 use crate::chains::Chains;
 use crate::frame::Frame;
+use crate::once::{Chain, Walks};
 use crate::record::Entry;
-use crate::search::SlotEnd;
 use crate::settings::Settings;
 use crate::tier::Tier;
 use crate::{Answer, number};
@@ -38,6 +38,14 @@ pub fn accept(block: &[u8], image: &[u8]) -> Answer<Accepted> {
     })
 }
 
+/// What the tiers add up to.
+struct Totals {
+    entries: u64,
+    marked: u64,
+    /// Whether no rule of chunks and counters is broken so far.
+    chunks_hold: bool,
+}
+
 /// What the slots of a tier add up to.
 struct Contents {
     full_slots: u32,
@@ -55,55 +63,73 @@ impl<'a> Check<'a> {
     /// ends it at once, a chunk fault is only remembered, since a slot fault
     /// in a later tier would still come before it.
     fn all_tiers(&self, chains: &Chains) -> Answer<(u64, u64)> {
-        let (mut entries, mut marked_chunks) = (0, 0);
-        let mut chunks_hold = true;
+        let mut totals = Totals {
+            entries: 0,
+            marked: 0,
+            chunks_hold: true,
+        };
         for segment in 0..self.frame.settings.segments {
-            let mut earlier = Vec::new();
-            for &index in chains.of(segment) {
-                let tier = self.frame.tier(index as usize);
-                let contents = self
-                    .contents(segment, &earlier, &tier)
-                    .ok_or(number::SLOTS)?;
-                let marked = BitSet::marked(&self.frame.settings, self.image, &tier);
-                chunks_hold &= self.counters_hold(&tier, &contents, &marked);
-                entries += u64::from(contents.full_slots);
-                marked_chunks += marked.count();
-                earlier.push(tier);
-            }
+            self.chain(segment, chains.of(segment), &mut totals)
+                .ok_or(number::SLOTS)?;
         }
-        chunks_hold &= chains
+        totals.chunks_hold &= chains
             .free
             .iter()
             .all(|&index| self.is_blank(index as usize));
-        if !chunks_hold {
+        if !totals.chunks_hold {
             return Err(number::CHUNKS);
         }
-        Ok((entries, marked_chunks))
+        Ok((totals.entries, totals.marked))
     }
 
-    /// The slots of a tier after the `earlier` ones of its chain.
-    fn contents(&self, segment: usize, earlier: &[Tier], tier: &Tier) -> Option<Contents> {
+    /// Adds a chain, if the rules of slots and entries hold: for each tier by
+    /// itself, and then no key has two slots.
+    fn chain(&self, segment: usize, indexes: &[u16], totals: &mut Totals) -> Option<()> {
+        let settings = &self.frame.settings;
+        let mut walks = Walks::new(settings, indexes.len());
+        let mut entries = 0;
+        for &index in indexes {
+            let tier = self.frame.tier(index as usize);
+            let contents = self.contents(segment, &tier, &mut walks)?;
+            let marked = BitSet::marked(settings, self.image, &tier);
+            totals.chunks_hold &= self.counters_hold(&tier, &contents, &marked);
+            totals.marked += marked.count();
+            entries += contents.full_slots;
+        }
+        totals.entries += u64::from(entries);
+        (walks.settled || self.keys_stand_once(indexes, entries)).then_some(())
+    }
+
+    fn keys_stand_once(&self, indexes: &[u16], entries: u32) -> bool {
+        let tiers = indexes.iter().map(|&index| self.frame.tier(index as usize));
+        let chain = Chain {
+            settings: &self.frame.settings,
+            image: self.image,
+            tiers: tiers.collect(),
+            entries: entries as usize,
+        };
+        chain.keys_stand_once()
+    }
+
+    /// The slots of a tier by themselves, in order. A run of full slots goes
+    /// on over the wrap: one at slot 0 has begun with those at the end.
+    fn contents(&self, segment: usize, tier: &Tier, walks: &mut Walks) -> Option<Contents> {
         let settings = &self.frame.settings;
         let full = BitSet::full_slots(settings, self.image, tier);
-        let empty = full.next_clear(0);
-        if empty == settings.slots {
+        if full.next_clear(0) == settings.slots {
             return None;
         }
         let mut covered = BitSet::empty(settings.chunks);
         let mut apart = true;
-        // From an empty slot on, every run of full slots is met at its start.
-        let (mut run_start, mut run_end) = (empty, empty);
-        for (from, to) in [(empty, settings.slots), (0, empty)] {
-            let mut place = full.next_set(from);
-            while place < to {
-                if place != run_end {
-                    run_start = place;
-                }
-                let entry = self.entry_of(segment, earlier, tier, place, run_start)?;
-                apart &= covered.add(entry.first_chunk, entry.chunks);
-                run_end = settings.next_slot(place);
-                place = full.next_set(place + 1);
-            }
+        let (mut run, mut run_end) = (full.run_at_end(), 0);
+        let mut place = full.next_set(0);
+        while place < settings.slots {
+            run = if place == run_end { run + 1 } else { 1 };
+            let entry = self.entry_of(segment, tier, place, run)?;
+            walks.walk(settings, self.image, tier, place);
+            apart &= covered.add(entry.first_chunk, entry.chunks);
+            run_end = place + 1;
+            place = full.next_set(run_end);
         }
         Some(Contents {
             full_slots: full.count() as u32,
@@ -112,16 +138,9 @@ impl<'a> Check<'a> {
         })
     }
 
-    /// The entry of a full slot in a run, if slot and entry agree and no
-    /// earlier slot of the chain has the same key.
-    fn entry_of(
-        &self,
-        segment: usize,
-        earlier: &[Tier],
-        tier: &Tier,
-        place: usize,
-        run_start: usize,
-    ) -> Option<Entry<'a>> {
+    /// The entry of a full slot, if the two agree and no slot from its start
+    /// up to itself is empty. It is the last of `run` full ones.
+    fn entry_of(&self, segment: usize, tier: &Tier, place: usize, run: usize) -> Option<Entry<'a>> {
         let settings = &self.frame.settings;
         let slot = settings.slot_at(self.image, tier, place);
         let lookup_key = settings.lookup_key(slot);
@@ -130,17 +149,8 @@ impl<'a> Check<'a> {
         let parts = settings.hash_parts(entry.key);
         let holds = parts.segment == segment
             && parts.lookup_key == lookup_key
-            && settings.slot_distance(start, place) <= settings.slot_distance(run_start, place);
-        if !holds {
-            return None;
-        }
-        let lacks_key = |tier, stop| {
-            let end = settings.find(self.image, tier, lookup_key, entry.key, stop);
-            matches!(end, SlotEnd::Empty { .. })
-        };
-        let once =
-            lacks_key(tier, place) && earlier.iter().all(|tier| lacks_key(tier, settings.slots));
-        once.then_some(entry)
+            && settings.slot_distance(start, place) < run;
+        holds.then_some(entry)
     }
 
     fn counters_hold(&self, tier: &Tier, contents: &Contents, marked: &BitSet) -> bool {

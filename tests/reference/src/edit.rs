@@ -209,7 +209,7 @@ impl Accepted {
         count: usize,
     ) {
         let settings = &self.frame.settings;
-        let end = settings.find(image, tier, parts.lookup_key, key, settings.slots);
+        let end = settings.find(image, tier, parts.lookup_key, key);
         let SlotEnd::Empty { place } = end else {
             unreachable!("an old entry of the key has been taken out");
         };

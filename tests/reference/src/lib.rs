@@ -18,6 +18,7 @@ mod frame;
 mod grow;
 mod hash;
 mod leb128;
+mod once;
 mod pairs;
 mod quick;
 mod record;

@@ -85,7 +85,15 @@ impl Settings {
 
     /// Whether the entry at a chunk has this key.
     pub fn has_key(&self, image: &[u8], tier: &Tier, first_chunk: u64, key: &[u8]) -> bool {
-        key_at(self.bytes_from(image, tier, first_chunk as usize)) == Some(key)
+        self.key_at(image, tier, first_chunk) == Some(key)
+    }
+
+    /// The key of the entry at a chunk below N, if its length is in form and
+    /// it ends within the chunks of its tier.
+    pub fn key_at<'a>(&self, image: &'a [u8], tier: &Tier, first_chunk: u64) -> Option<&'a [u8]> {
+        let bytes = self.bytes_from(image, tier, first_chunk as usize);
+        let (length, size) = leb128::read(bytes)?;
+        bytes.get(size..size + length)
     }
 
     /// From the start of a chunk to the end of the tier's chunks.
@@ -105,11 +113,6 @@ impl Settings {
             chunks => Ok(chunks),
         }
     }
-}
-
-fn key_at(bytes: &[u8]) -> Option<&[u8]> {
-    let (length, size) = leb128::read(bytes)?;
-    bytes.get(size..size + length)
 }
 
 /// Writes the entry to the front of `bytes` and nothing after it.

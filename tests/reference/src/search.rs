@@ -33,29 +33,19 @@ pub struct Absent {
 }
 
 impl Settings {
-    /// Searches a tier for a key, upward from its start slot, wrapping. The
-    /// slot `stop` counts as empty. It or an empty slot must come, and the
-    /// slots before must have been checked.
-    pub fn find(
-        &self,
-        image: &[u8],
-        tier: &Tier,
-        lookup_key: u64,
-        key: &[u8],
-        stop: usize,
-    ) -> SlotEnd {
+    /// Searches a tier for a key, upward from its start slot, wrapping. An
+    /// empty slot must come, and the slots before must have been checked.
+    pub fn find(&self, image: &[u8], tier: &Tier, lookup_key: u64, key: &[u8]) -> SlotEnd {
         let mut place = self.start_slot(lookup_key);
-        while place != stop {
-            let slot = self.slot_at(image, tier, place);
-            if slot == 0 {
-                break;
-            }
+        let mut slot = self.slot_at(image, tier, place);
+        while slot != 0 {
             if self.lookup_key(slot) == lookup_key
                 && self.has_key(image, tier, self.first_chunk(slot), key)
             {
                 return SlotEnd::Key { place, slot };
             }
             place = self.next_slot(place);
+            slot = self.slot_at(image, tier, place);
         }
         SlotEnd::Empty { place }
     }
@@ -73,7 +63,7 @@ impl Accepted {
         let settings = &self.frame.settings;
         let mut absent = None;
         for tier in self.chain(parts.segment) {
-            match settings.find(image, &tier, parts.lookup_key, key, settings.slots) {
+            match settings.find(image, &tier, parts.lookup_key, key) {
                 SlotEnd::Key { place, slot } => return Ok(self.found(image, tier, place, slot)),
                 SlotEnd::Empty { place } => absent = Some(Absent { tier, slot: place }),
             }

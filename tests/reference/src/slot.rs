@@ -24,6 +24,12 @@ impl Settings {
         }
     }
 
+    /// A key's hash without the bits that choose the segment, which all keys
+    /// of a chain share.
+    pub fn chain_hash(&self, key: &[u8]) -> u64 {
+        crate::hash::xxh64(key) >> self.segments.trailing_zeros()
+    }
+
     pub fn lookup_key_mask(&self) -> u64 {
         (1 << self.key_bits) - 1
     }

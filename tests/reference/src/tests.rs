@@ -1,17 +1,22 @@
 //! The worked store, the run-only cases, and cases of our own.
 
+mod chain_builder;
 mod empty_tiers;
 mod empty_tiers_settings;
 mod empty_tiers_stores;
+mod full_chains;
 mod grow;
 mod grow_settings;
 mod hash_vectors;
+mod keys_once;
 mod low_mark;
 mod on_the_spot;
+mod one_hash;
 mod pairs;
 mod quick;
 mod quick_asks;
 mod quick_walk;
+mod reached_slots;
 mod same_map;
 mod search_end;
 mod store_kinds;
