@@ -27,6 +27,13 @@
  * Beyond that nothing is asked. The bytes may be any bytes, the lengths any lengths, and n, the channels and a
  * delay any numbers: where they are wrong the call says so by its number.
  *
+ * What a call needs
+ * -----------------
+ * Every call but the two quick ones needs at most 85 KiB of stack, which leaves room on a thread's stack of 128 KiB.
+ * Where each chain is one tier that is not nearly full, 19 KiB do. A quick call needs less than 1 KiB. All this is
+ * measured (`make bench ARGS=--stack`), not proved. The time of a call is that of the check, which grows with the
+ * image; docs/SPEED.md has it for chains of many full tiers.
+ *
  * Two stores of one map
  * ---------------------
  * Two images that the check accepts under one block, with the same keys and records in them, may differ in every
