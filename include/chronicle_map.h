@@ -30,9 +30,9 @@
  * What a call needs
  * -----------------
  * Every call but the two quick ones needs at most 85 KiB of stack, which leaves room on a thread's stack of 128 KiB.
- * Where each chain is one tier that is not nearly full, 19 KiB do. A quick call needs less than 1 KiB. All this is
- * measured (`make bench ARGS=--stack`), not proved. The time of a call is that of the check, which grows with the
- * image; docs/SPEED.md has it for chains of many full tiers.
+ * On an ordinary store (each chain one tier that is not nearly full, lookup keys that mostly differ) 19 KiB do. A
+ * quick call needs less than 1 KiB. All this is measured (`make bench ARGS=--stack`), not proved. The time of a call
+ * is that of the check, which grows with the image; docs/SPEED.md has it for chains of many full tiers.
  *
  * Two stores of one map
  * ---------------------
