@@ -1,4 +1,6 @@
 // The chains of tiers.
+#![tactic(auto)]
+
 ghost use Rattle.std.specs.Prelude.{◌≡◌, suc, ◌+◌, ◌<◌, length, get_or};
 ghost use Rattle.lists.specs.Decide.{Decides};
 ghost use Rattle.lists.specs.Quantify.{Below};
@@ -12,14 +14,14 @@ use layout::{Counters, Shape};
 const COUNTS: usize = layout::MOST_TIERS + 1;
 
 // Whether the chains fit: how many tiers are chained and how many free, or that a rule is broken.
-#[derive(Drop)]
+#[derive(Clone, Copy)]
 pub enum Chains {
     Fit(usize, usize),
     Broken,
 }
 
 // How a walk along the links went: it ended after so many tiers, or it was lost.
-#[derive(Drop)]
+#[derive(Clone, Copy)]
 pub enum Walked {
     Ended(usize),
     Lost,

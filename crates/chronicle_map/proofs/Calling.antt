@@ -25,9 +25,9 @@ use Rattle.search.proofs.Finding.{search-absent}
 use Rattle.sound.specs.Sound.{SoundImage}
 use Rattle.counters.specs.Recount.{settle}
 use Rattle.unlinking.proofs.Emptied.{main-stays}
-use Rattle.edit.specs.Edits.{find, without_entry, removed_entry, removeImage, noRoom}
+use Rattle.edit.specs.Edits.{find, without_entry, removed_entry, remove_image, no_room}
 use Rattle.edit.specs.declared.Policy.{Policy}
-use Rattle.edit.specs.Replaced.{isThere, Stores}
+use Rattle.edit.specs.Replaced.{is_there, Stores}
 use Rattle.edit.proofs.Finding.{find-live, search-found, search-none}
 use Rattle.edit.proofs.Replacing.{live-value}
 use Rattle.image.specs.declared.Stage.{Stage}
@@ -35,7 +35,7 @@ use Rattle.image.specs.declared.Counts.{Counts}
 use Rattle.image.specs.declared.Examined.{Examined}
 use Rattle.image.specs.declared.Examined.TheVariants.{Ready, Refused}
 use Rattle.image.specs.Check.{examine}
-use Rattle.growing.specs.Growing.{noBulk, grow_image}
+use Rattle.growing.specs.Growing.{no_bulk, grow_image}
 use Rattle.chronicle_map.specs.declared.RecordPlace.{RecordPlace}
 use Rattle.chronicle_map.specs.declared.SearchEnd.{SearchEnd}
 use Rattle.chronicle_map.specs.declared.Located.{Located}
@@ -43,7 +43,7 @@ use Rattle.chronicle_map.specs.declared.Located.TheVariants as located
 use Rattle.chronicle_map.specs.declared.Answer.{Answer}
 use Rattle.chronicle_map.specs.declared.Answer.TheVariants as answer
 use Rattle.chronicle_map.specs.Asked.{a_key, an_entry, asked}
-use Rattle.chronicle_map.specs.Calls.{place_of, from_find, looked_up, lookup, record_at, record_length, PartOf, RecordOf, removeFound, removing, remove, storeUnless, storing, store, growUnless, growing, grow}
+use Rattle.chronicle_map.specs.Calls.{place_of, from_find, looked_up, lookup, record_at, record_length, PartOf, RecordOf, remove_found, removing, remove, store_unless, storing, store, grow_unless, growing, grow}
 use Rattle.chronicle_map.proofs.Asking.{key-sound}
 
 -- ---- lookup
@@ -128,25 +128,25 @@ module _ (block : List ℕ) (img : Bor (List ℕ)) (key : List ℕ) (r : Located
 -- ---- removal
 
 module _ (z : Shape) (img key : List ℕ) where
-  done-by : (o : Option Live) {img' : List ℕ} → isThere o ≡ true → img' ≡ removeImage z img key
-      → record { answer = answer.Done; image = img' } ≡ removeFound z img key o
-  unfolding removeFound
+  done-by : (o : Option Live) {img' : List ℕ} → is_there o ≡ true → img' ≡ remove_image z img key
+      → record { answer = answer.Done; image = img' } ≡ remove_found z img key o
+  unfolding remove_found
   done-by none t e = absurd (let q : ◌≡◌ {A = ℕ} 0 1 = cc in omega arith)
   done-by (some x) t e = λ i. record { answer = answer.Done; image = e i }
 
-  absent_by : (o : Option Live) {img' : List ℕ} → find z img key ≡ o → isThere o ≡ false → img' ≡ removeImage z img key
-      → record { answer = answer.Absent; image = img' } ≡ removeFound z img key o
-  unfolding removeFound removeImage removed_entry without_entry settle
+  absent_by : (o : Option Live) {img' : List ℕ} → find z img key ≡ o → is_there o ≡ false → img' ≡ remove_image z img key
+      → record { answer = answer.Absent; image = img' } ≡ remove_found z img key o
+  unfolding remove_found remove_image removed_entry without_entry settle
   absent_by none f t e =
-      let g : removeImage z img key ≡ img = ap (removed_entry z img) f ∙ main-stays z img 0 (omega arith) in
+      let g : remove_image z img key ≡ img = ap (removed_entry z img) f ∙ main-stays z img 0 (omega arith) in
       λ i. record { answer = answer.Absent; image = (e ∙ g) i }
   absent_by (some x) f t e = absurd (let q : ◌≡◌ {A = ℕ} 0 1 = cc in omega arith)
 
-  module _ (r : Bool) (er : r ≡ isThere (find z img key)) {img' : List ℕ} (e : img' ≡ removeImage z img key) where
-    pub removed-done : r ≡ true → record { answer = answer.Done; image = img' } ≡ removeFound z img key (find z img key)
+  module _ (r : Bool) (er : r ≡ is_there (find z img key)) {img' : List ℕ} (e : img' ≡ remove_image z img key) where
+    pub removed-done : r ≡ true → record { answer = answer.Done; image = img' } ≡ remove_found z img key (find z img key)
     removed-done t = done-by (find z img key) (sym er ∙ t) e
 
-    pub removed-absent : r ≡ false → record { answer = answer.Absent; image = img' } ≡ removeFound z img key (find z img key)
+    pub removed-absent : r ≡ false → record { answer = answer.Absent; image = img' } ≡ remove_found z img key (find z img key)
     removed-absent t = absent_by (find z img key) refl (sym er ∙ t) e
 
 module _ (block img key : List ℕ) {x : Examined} (ex : x ≡ asked block img (a_key key)) where
@@ -155,21 +155,21 @@ module _ (block img key : List ℕ) {x : Examined} (ex : x ≡ asked block img (
   remove-refused s e = ap (removing img key) (sym e ∙ ex)
 
   pub remove-ready : (z : Shape) (c : Counts) → x ≡ Ready z c → {r : Answer} {img' : List ℕ}
-      → record { answer = r; image = img' } ≡ removeFound z img key (find z img key) → record { answer = r; image = img' } ≡ remove block img key
+      → record { answer = r; image = img' } ≡ remove_found z img key (find z img key) → record { answer = r; image = img' } ≡ remove block img key
   unfolding remove removing
   remove-ready z c e er = er ∙ ap (removing img key) (sym e ∙ ex)
 
 -- ---- store
 
 module _ (policy : Policy) (z : Shape) (img key value : List ℕ) (r : Bool) {img' : List ℕ} (e : Stores policy z img key value r img') where
-  pub stored-done : r ≡ true → record { answer = answer.Done; image = img' } ≡ storeUnless policy z img key value (noRoom z img key value)
-  unfolding storeUnless
+  pub stored-done : r ≡ true → record { answer = answer.Done; image = img' } ≡ store_unless policy z img key value (no_room z img key value)
+  unfolding store_unless
   stored-done t =
       let s : Stores policy z img key value true img' = subst (λ (b : Bool). Stores policy z img key value b img') t e in
       rw s.0 (λ i. record { answer = answer.Done; image = s.1 i })
 
-  pub stored-full : r ≡ false → record { answer = answer.Full; image = img' } ≡ storeUnless policy z img key value (noRoom z img key value)
-  unfolding storeUnless
+  pub stored-full : r ≡ false → record { answer = answer.Full; image = img' } ≡ store_unless policy z img key value (no_room z img key value)
+  unfolding store_unless
   stored-full t =
       let s : Stores policy z img key value false img' = subst (λ (b : Bool). Stores policy z img key value b img') t e in
       rw s.0 (λ i. record { answer = answer.Full; image = s.1 i })
@@ -180,7 +180,7 @@ module _ (policy : Policy) (block img key value : List ℕ) {x : Examined} (ex :
   store-refused s e = ap (storing policy img key value) (sym e ∙ ex)
 
   pub store-ready : (z : Shape) (c : Counts) → x ≡ Ready z c → {r : Answer} {img' : List ℕ}
-      → record { answer = r; image = img' } ≡ storeUnless policy z img key value (noRoom z img key value)
+      → record { answer = r; image = img' } ≡ store_unless policy z img key value (no_room z img key value)
       → record { answer = r; image = img' } ≡ store policy block img key value
   unfolding store storing
   store-ready z c e er = er ∙ ap (storing policy img key value) (sym e ∙ ex)
@@ -188,15 +188,15 @@ module _ (policy : Policy) (block img key value : List ℕ) {x : Examined} (ex :
 -- ---- one bulk more
 
 module _ (z : Shape) (img : List ℕ) where
-  pub grow-full : {b : Bool} → b ≡ noBulk z (length img) → b ≡ true
-      → record { answer = answer.NoBulk; image = img } ≡ growUnless z img (noBulk z (length img))
-  unfolding growUnless
-  grow-full e t = ap (growUnless z img) (sym t ∙ e)
+  pub grow-full : {b : Bool} → b ≡ no_bulk z (length img) → b ≡ true
+      → record { answer = answer.NoBulk; image = img } ≡ grow_unless z img (no_bulk z (length img))
+  unfolding grow_unless
+  grow-full e t = ap (grow_unless z img) (sym t ∙ e)
 
-  pub grow-done : {b : Bool} → b ≡ noBulk z (length img) → b ≡ false → {img' : List ℕ} → img' ≡ grow_image z img
-      → record { answer = answer.Done; image = img' } ≡ growUnless z img (noBulk z (length img))
-  unfolding growUnless
-  grow-done e t f = (λ i. record { answer = answer.Done; image = f i }) ∙ ap (growUnless z img) (sym t ∙ e)
+  pub grow-done : {b : Bool} → b ≡ no_bulk z (length img) → b ≡ false → {img' : List ℕ} → img' ≡ grow_image z img
+      → record { answer = answer.Done; image = img' } ≡ grow_unless z img (no_bulk z (length img))
+  unfolding grow_unless
+  grow-done e t f = (λ i. record { answer = answer.Done; image = f i }) ∙ ap (grow_unless z img) (sym t ∙ e)
 
 module _ (block img : List ℕ) {x : Examined} (ex : x ≡ examine block img) where
   pub grow-refused : (s : Stage) → x ≡ Refused s → record { answer = answer.Refused s; image = img } ≡ grow block img
@@ -204,6 +204,6 @@ module _ (block img : List ℕ) {x : Examined} (ex : x ≡ examine block img) wh
   grow-refused s e = ap (growing img) (sym e ∙ ex)
 
   pub grow-ready : (z : Shape) (c : Counts) → x ≡ Ready z c → {r : Answer} {img' : List ℕ}
-      → record { answer = r; image = img' } ≡ growUnless z img (noBulk z (length img)) → record { answer = r; image = img' } ≡ grow block img
+      → record { answer = r; image = img' } ≡ grow_unless z img (no_bulk z (length img)) → record { answer = r; image = img' } ≡ grow block img
   unfolding grow growing
   grow-ready z c e er = er ∙ ap (growing img) (sym e ∙ ex)

@@ -21,14 +21,14 @@ use Rattle.sound.proofs.Sound.{sound-but}
 use Rattle.image.specs.Check.{counts_of}
 use Rattle.unlinking.specs.GoingHome.{ChainsStay}
 use Rattle.edit.specs.declared.Policy.{Policy}
-use Rattle.edit.specs.Edits.{find, noRoom, removeImage, spot_of, taking_tier, store_image}
+use Rattle.edit.specs.Edits.{find, no_room, remove_image, spot_of, taking_tier, store_image}
 use Rattle.edit.proofs.Finding.{found-only}
 use Rattle.edit.proofs.Replacing.{live-tier, live-key-fits}
 use Rattle.edit.proofs.Roomy.{emptied-room}
 use Rattle.edit.proofs.Emptying.{removal_home, removal_stays, store-home}
 use Rattle.edit.proofs.NoneLeft.{removal_leaves-none, store-leaves-none}
 use Rattle.chronicle_map.specs.Asked.{a_key, GivenKeyFits, given_key_fits?, given_value_fits?, after_value, after_key}
-use Rattle.chronicle_map.specs.Calls.{Edited, answer_number, removeFound, removing, remove, storeUnless, store}
+use Rattle.chronicle_map.specs.Calls.{Edited, answer_number, remove_found, removing, remove, store_unless, store}
 use Rattle.chronicle_map.specs.Demands.{Accepted, shape, AloneInExtra, TierGoes, TierReplaced, NoneLeft, EmptyTiers}
 use Rattle.chronicle_map.proofs.Accepting.{Holds, accepted-holds}
 use Rattle.chronicle_map.proofs.Steps.{asked-holds, store-by-cases}
@@ -39,9 +39,9 @@ module _ (block img : List ℕ) (h : Holds block img) where
 
   -- ---- what a removal leaves: the image as it was, or without the key's entry
 
-  module _ (key : List ℕ) (P : List ℕ → Type 0) (here : P img) (gone : P (removeImage z img key)) where
-    by-find : (o : Option Live) → P (removeFound z img key o).image
-    unfolding removeFound
+  module _ (key : List ℕ) (P : List ℕ → Type 0) (here : P img) (gone : P (remove_image z img key)) where
+    by-find : (o : Option Live) → P (remove_found z img key o).image
+    unfolding remove_found
     by-find none = here
     by-find (some e) = gone
 
@@ -61,11 +61,11 @@ module _ (block img : List ℕ) (h : Holds block img) where
     key_fits : KeyFits z.settings key
     key_fits = rw is at (live-key-fits z img h.sound e (live_in_lem z img e m))
 
-    removal_is : (remove block img key).image ≡ removeImage z img key
-    unfolding remove removing removeFound after_key after_value given_value_fits? choose
+    removal_is : (remove block img key).image ≡ remove_image z img key
+    unfolding remove removing remove_found after_key after_value given_value_fits? choose
     removal_is =
         ap (λ x. (removing img key x).image) (asked-holds block img h (a_key key) ∙ choose_yes (given_key_fits? z.settings (a_key key)) _ _ key_fits)
-        ∙ ap (λ (o : Option Live). (removeFound z img key o).image) found
+        ∙ ap (λ (o : Option Live). (remove_found z img key o).image) found
 
     -- ---- a removal
 
@@ -81,13 +81,13 @@ module _ (block img : List ℕ) (h : Holds block img) where
     -- ---- a store in its place
 
     module _ (a : AloneInExtra block img e) (value : List ℕ) where
-      room : ValueFits z.settings (length key) (length value) → noRoom z img key value ≡ false
+      room : ValueFits z.settings (length key) (length value) → no_room z img key value ≡ false
       room v =
           emptied-room z img h.sound key value e found
           (omega (arith, a.alone, removal_full z img (sound-but z img h.sound) e m)) v
 
       never-full : (policy : Policy) → answer_number (store policy block img key value).answer ≢ 10
-      unfolding storeUnless
+      unfolding store_unless
       never-full policy =
           store-by-cases block img h policy key value (λ x. answer_number x.answer ≢ 10) (omega arith) (omega arith) (λ k v. rw (room v) (omega arith))
 
@@ -95,9 +95,9 @@ module _ (block img : List ℕ) (h : Holds block img) where
         abbrev Claim : Edited → Type 0
         Claim x = answer_number x.answer ≡ 0 → TierReplaced block img x.image e (taking_tier z img key value)
 
-        by-room : KeyFits z.settings key → ValueFits z.settings (length key) (length value) → (b : Bool) → noRoom z img key value ≡ b
-            → Claim (storeUnless policy z img key value b)
-        unfolding storeUnless store_image
+        by-room : KeyFits z.settings key → ValueFits z.settings (length key) (length value) → (b : Bool) → no_room z img key value ≡ b
+            → Claim (store_unless policy z img key value b)
+        unfolding store_unless store_image
         by-room k v true q n = absurd (omega arith)
         by-room k v false q n =
             rw moves (store-home z img h.sound key e found value (record { sound = h.sound; key_fits = k; value_fits = v }) kb vb a.alone a.extra.0)
@@ -105,7 +105,7 @@ module _ (block img : List ℕ) (h : Holds block img) where
         replaced : Claim (store policy block img key value)
         replaced =
             store-by-cases block img h policy key value Claim (λ n. absurd (omega arith)) (λ n. absurd (omega arith))
-            (λ k v. by-room k v (noRoom z img key value) refl)
+            (λ k v. by-room k v (no_room z img key value) refl)
 
   -- ---- no tier that an edit emptied is left in a chain
 
@@ -113,13 +113,13 @@ module _ (block img : List ℕ) (h : Holds block img) where
   none_here t extra some-before none_after c = some-before none_after
 
   store-none-left : (policy : Policy) (key value : List ℕ) → Bytes key → Bytes value → NoneLeft block img (store policy block img key value).image
-  unfolding storeUnless
+  unfolding store_unless
   store-none-left policy key value kb vb =
       store-by-cases block img h policy key value (λ x. NoneLeft block img x.image) none_here none_here
-      (λ k v. by_row k v (noRoom z img key value) refl)
+      (λ k v. by_row k v (no_room z img key value) refl)
     where
-      by_row : KeyFits z.settings key → ValueFits z.settings (length key) (length value) → (b : Bool) → noRoom z img key value ≡ b
-          → NoneLeft block img (storeUnless policy z img key value b).image
+      by_row : KeyFits z.settings key → ValueFits z.settings (length key) (length value) → (b : Bool) → no_room z img key value ≡ b
+          → NoneLeft block img (store_unless policy z img key value b).image
       by_row k v true q = none_here
       by_row k v false q =
           store-leaves-none policy z img key value (record { sound = h.sound; key_fits = k; value_fits = v }) kb vb q

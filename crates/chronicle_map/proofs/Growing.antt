@@ -27,7 +27,7 @@ use Rattle.entries.specs.Live.{live}
 use Rattle.entries.specs.Pairs.{Pair}
 use Rattle.entries.proofs.Hashes.{segment-lt}
 use Rattle.sound.specs.Sound.{SoundImage}
-use Rattle.growing.specs.Growing.{grown, noBulk, grow_image}
+use Rattle.growing.specs.Growing.{grown, no_bulk, grow_image}
 use Rattle.growing.proofs.Sound.{grow-sound, grow-chain, grow-free, grow-head, grow-live, grow-pair, grow-pairs, grow_last, grow-empty, grow-bits}
 use Rattle.growing.proofs.Bytes.{get_d_grow-out}
 use Rattle.image.specs.List.{pick, from_nth, from_examined, entry}
@@ -35,7 +35,7 @@ use Rattle.edit.specs.declared.Policy.{Policy}
 use Rattle.edit.specs.Edits.{find}
 use Rattle.edit.proofs.Roomy.{room-when-free}
 use Rattle.chronicle_map.specs.declared.Located.TheVariants as looked
-use Rattle.chronicle_map.specs.Calls.{end_in, search_end, from_find, lookup, Edited, answer_number, store, growUnless, growing, grow}
+use Rattle.chronicle_map.specs.Calls.{end_in, search_end, from_find, lookup, Edited, answer_number, store, grow_unless, growing, grow}
 use Rattle.chronicle_map.specs.History.{grows, leaves, map_of}
 use Rattle.chronicle_map.specs.Demands.{shape, Accepted, Grown, Growth}
 use Rattle.chronicle_map.proofs.Accepting.{Holds, accepted-holds, holds-ready, holds-accepted, shape-by, holds_by, map-by}
@@ -49,11 +49,11 @@ module _ (block img : List ℕ) (h : Holds block img) where
   z = shape block img
 
   -- a grow on an accepted image, by whether there is room
-  grow-by : (b : Bool) → noBulk z (length img) ≡ b → grow block img ≡ growUnless z img b
+  grow-by : (b : Bool) → no_bulk z (length img) ≡ b → grow block img ≡ grow_unless z img b
   unfolding grow growing
-  grow-by b e = ap (growing img) (holds-ready block img h) ∙ ap (growUnless z img) e
+  grow-by b e = ap (growing img) (holds-ready block img h) ∙ ap (grow_unless z img) e
 
-  module _ (room : noBulk z (length img) ≡ false) where
+  module _ (room : no_bulk z (length img) ≡ false) where
     abbrev after : List ℕ
     after = grow_image z img
 
@@ -117,7 +117,7 @@ module _ (block img : List ℕ) (h : Holds block img) where
         not-10 block after after_holds key value (room-when-free (shape block after) after after_holds.sound key value some-free) policy
 
     grow-image : (grow block img).image ≡ after
-    unfolding growUnless
+    unfolding grow_unless
     grow-image = ap (λ (x : Edited). x.image) (grow-by false room)
 
     all_grown : Grown block img after
@@ -140,22 +140,22 @@ module _ (block img : List ℕ) (h : Holds block img) where
 
   -- ---- all of it
 
-  answer-by : (b : Bool) → noBulk z (length img) ≡ b → answer_number (grow block img).answer ≡ answer_number (growUnless z img b).answer
+  answer-by : (b : Bool) → no_bulk z (length img) ≡ b → answer_number (grow block img).answer ≡ answer_number (grow_unless z img b).answer
   answer-by b e = ap (λ (x : Edited). answer_number x.answer) (grow-by b e)
 
-  grown-by : (b : Bool) → noBulk z (length img) ≡ b → answer_number (grow block img).answer ≡ 0 → Grown block img (grow block img).image
-  unfolding growUnless
+  grown-by : (b : Bool) → no_bulk z (length img) ≡ b → answer_number (grow block img).answer ≡ 0 → Grown block img (grow block img).image
+  unfolding grow_unless
   grown-by true e a = absurd (omega (arith, a, answer-by true e))
   grown-by false e a = subst (Grown block img) (sym (grow-image e)) (all_grown e)
 
 pub growth : (block img : List ℕ) → Bytes img → Accepted block img → Growth block img
-unfolding growUnless
+unfolding grow_unless
 growth block img b a =
     let h : Holds block img = accepted-holds block img b a in
     record {
       refused = answer-by block img h true;
       done = answer-by block img h false;
-      grown = grown-by block img h (noBulk (shape block img) (length img)) refl;
+      grown = grown-by block img h (no_bulk (shape block img) (length img)) refl;
     }
 
 -- ---- whatever it answers, the image is accepted and reads as the same map

@@ -18,7 +18,7 @@ use Rattle.image.specs.declared.Stage.TheVariants.{Block, Field, Frame, Chains, 
 use Rattle.image.specs.declared.Counts.{Counts}
 use Rattle.image.specs.declared.Examined.{Examined}
 use Rattle.image.specs.declared.Examined.TheVariants.{Ready, Refused}
-use Rattle.image.specs.Check.{stage_number, after_chunks, after_entries, after_chains, afterFrame, after_block, examine}
+use Rattle.image.specs.Check.{stage_number, after_chunks, after_entries, after_chains, after_frame, after_block, examine}
 use Rattle.chronicle_map.specs.Asked.{Given, nothing, a_key, an_entry, GivenKeyFits, given_key_fits?, GivenValueFits, given_value_fits?, after_value, after_key, after_examined, asked}
 
 -- ---- which stages refuse
@@ -28,8 +28,8 @@ abbrev pub Most : ℕ → Examined → Type 0
 Most n (Refused s) = stage_number s ≤ n
 Most n (Ready z c) = Unit {0}
 
-frame-most : (z : Shape) (img : List ℕ) → Most 7 (afterFrame z img (frame_fits? z img))
-unfolding afterFrame after_chains after_entries after_chunks
+frame-most : (z : Shape) (img : List ℕ) → Most 7 (after_frame z img (frame_fits? z img))
+unfolding after_frame after_chains after_entries after_chunks
 frame-most z img =
     choose-by (frame_fits? z img) _ _ (Most 7) (λ _. omega arith) λ _.
     choose-by (chains_fit? z img) _ _ (Most 7) (λ _. omega arith) λ _.

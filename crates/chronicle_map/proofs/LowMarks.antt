@@ -12,11 +12,11 @@ use Rattle.entries.specs.declared.Live.{Live}
 use Rattle.edit.specs.declared.Policy.{Policy}
 use Rattle.image.specs.Check.{counts_of}
 use Rattle.counters.specs.LowMarks.{LowMarks}
-use Rattle.edit.specs.Edits.{find, noRoom, remove_tiers, store_tiers}
+use Rattle.edit.specs.Edits.{find, no_room, remove_tiers, store_tiers}
 use Rattle.edit.proofs.Without.{remove-lows}
 use Rattle.edit.proofs.Stored.{store-lows}
 use Rattle.chronicle_map.specs.Asked.{a_key, an_entry, GivenKeyFits, given_key_fits?, GivenValueFits, given_value_fits?, after_value, after_key}
-use Rattle.chronicle_map.specs.Calls.{Edited, answer_number, removeFound, removing, remove, storeUnless, store}
+use Rattle.chronicle_map.specs.Calls.{Edited, answer_number, remove_found, removing, remove, store_unless, store}
 use Rattle.chronicle_map.specs.Demands.{Accepted, shape, LowMarksFollow}
 use Rattle.chronicle_map.proofs.Accepting.{Holds, accepted-holds}
 use Rattle.chronicle_map.proofs.Steps.{asked-holds, store-by-cases}
@@ -31,18 +31,18 @@ module _ (block img : List ℕ) (h : Holds block img) where
 
   module _ (policy : Policy) (key value : List ℕ) (key_bytes : Bytes key) (value_bytes : Bytes value) where
     with_row : GivenKeyFits z.settings (an_entry key value) → GivenValueFits z.settings (an_entry key value) → (b : Bool)
-        → noRoom z img key value ≡ b → Follows (store_tiers policy z img key value) (storeUnless policy z img key value b)
-    unfolding storeUnless
+        → no_room z img key value ≡ b → Follows (store_tiers policy z img key value) (store_unless policy z img key value b)
+    unfolding store_unless
     with_row k v true e a = absurd (omega arith)
     with_row k v false e a = store-lows policy z img key value (record { sound = h.sound; key_fits = k; value_fits = v }) key_bytes value_bytes e
 
     stored : Follows (store_tiers policy z img key value) (store policy block img key value)
     stored =
         store-by-cases block img h policy key value (Follows (store_tiers policy z img key value)) (λ a. absurd (omega arith)) (λ a. absurd (omega arith))
-        (λ k v. with_row k v (noRoom z img key value) refl)
+        (λ k v. with_row k v (no_room z img key value) refl)
 
-  found : (key : List ℕ) (o : Option Live) → Follows (remove_tiers z img key) (removeFound z img key o)
-  unfolding removeFound
+  found : (key : List ℕ) (o : Option Live) → Follows (remove_tiers z img key) (remove_found z img key o)
+  unfolding remove_found
   found key none a = absurd (omega arith)
   found key (some e) a = remove-lows z img h.sound key
 

@@ -24,13 +24,13 @@ use Rattle.image.specs.declared.Examined.TheVariants.{Ready, Refused}
 use Rattle.image.specs.Check.{stage_number, examine, verdict_of, check, verdict_numbers}
 use Rattle.image.specs.List.{pick, from_nth, from_examined, entry, listed_numbers}
 use Rattle.image.proofs.Ready.{Fitting, ready-fitting, ready-framed}
-use Rattle.growing.specs.Growing.{noBulk}
-use Rattle.edit.specs.Edits.{find, noRoom}
+use Rattle.growing.specs.Growing.{no_bulk}
+use Rattle.edit.specs.Edits.{find, no_room}
 use Rattle.chronicle_map.specs.declared.SearchEnd.{SearchEnd}
 use Rattle.chronicle_map.specs.declared.Located.{Located}
 use Rattle.chronicle_map.specs.declared.Located.TheVariants as looked
 use Rattle.chronicle_map.specs.Asked.{a_key, an_entry, asked}
-use Rattle.chronicle_map.specs.Calls.{number_of, search_end, from_find, looked_up, lookup, lookup_numbers, record_at, record_length, answer_number, removeFound, removing, remove, storeUnless, storing, store, growUnless, growing, grow}
+use Rattle.chronicle_map.specs.Calls.{number_of, search_end, from_find, looked_up, lookup, lookup_numbers, record_at, record_length, answer_number, remove_found, removing, remove, store_unless, storing, store, grow_unless, growing, grow}
 use Rattle.chronicle_map.specs.Demands.{Answers, shape, Ended, LookupAnswers, Demand1}
 use Rattle.chronicle_map.proofs.Asking.{key-ready}
 use Rattle.chronicle_map.proofs.Highest.{Most, Not8, stage-least, examine-most, asked-most, asked-not-8}
@@ -108,59 +108,59 @@ module _ (img key : List ℕ) where
   -- ---- an edit: its number, and the image where that is not 0
 
   removal_answers_lem : (x : Examined) → Most 8 x → Answers (0 ∷ span 1 8) (answer_number (removing img key x).answer ∷ [])
-  unfolding removing removeFound
+  unfolding removing remove_found
   removal_answers_lem (Refused s) w = other-answers 1 8 _ (stage_number s) (omega (arith, stage-least s)) (omega arith) refl
   removal_answers_lem (Ready z c) w = by-find (find z img key)
     where
-      by-find : (o : Option Live) → Answers (0 ∷ span 1 8) (answer_number (removeFound z img key o).answer ∷ [])
+      by-find : (o : Option Live) → Answers (0 ∷ span 1 8) (answer_number (remove_found z img key o).answer ∷ [])
       by-find none = other-answers 1 8 _ 1 (omega arith) (omega arith) refl
       by-find (some e) = zero-answers 1 8 _
 
   removal_refused_lem : (x : Examined) → answer_number (removing img key x).answer ≢ 0 → (removing img key x).image ≡ img
-  unfolding removing removeFound
+  unfolding removing remove_found
   removal_refused_lem (Refused s) n = refl
   removal_refused_lem (Ready z c) n = by-find (find z img key) n
     where
-      by-find : (o : Option Live) → answer_number (removeFound z img key o).answer ≢ 0 → (removeFound z img key o).image ≡ img
+      by-find : (o : Option Live) → answer_number (remove_found z img key o).answer ≢ 0 → (remove_found z img key o).image ≡ img
       by-find none n = refl
       by-find (some e) n = absurd (n refl)
 
   module _ (policy : Policy) (value : List ℕ) where
     store-answers : (x : Examined) → Most 9 x → Answers (0 ∷ span 2 9) (answer_number (storing policy img key value x).answer ∷ [])
-    unfolding storing storeUnless
+    unfolding storing store_unless
     store-answers (Refused s) w = other-answers 2 9 _ (stage_number s) (stage-least s) (omega arith) refl
-    store-answers (Ready z c) w = by-room (noRoom z img key value)
+    store-answers (Ready z c) w = by-room (no_room z img key value)
       where
-        by-room : (r : Bool) → Answers (0 ∷ span 2 9) (answer_number (storeUnless policy z img key value r).answer ∷ [])
+        by-room : (r : Bool) → Answers (0 ∷ span 2 9) (answer_number (store_unless policy z img key value r).answer ∷ [])
         by-room true = other-answers 2 9 _ 10 (omega arith) (omega arith) refl
         by-room false = zero-answers 2 9 _
 
     store-refused : (x : Examined) → answer_number (storing policy img key value x).answer ≢ 0 → (storing policy img key value x).image ≡ img
-    unfolding storing storeUnless
+    unfolding storing store_unless
     store-refused (Refused s) n = refl
-    store-refused (Ready z c) n = by-room (noRoom z img key value) n
+    store-refused (Ready z c) n = by-room (no_room z img key value) n
       where
-        by-room : (r : Bool) → answer_number (storeUnless policy z img key value r).answer ≢ 0 → (storeUnless policy z img key value r).image ≡ img
+        by-room : (r : Bool) → answer_number (store_unless policy z img key value r).answer ≢ 0 → (store_unless policy z img key value r).image ≡ img
         by-room true n = refl
         by-room false n = absurd (n refl)
 
 module _ (img : List ℕ) where
   grow-answers : (x : Examined) → Most 7 x → Answers (0 ∷ 2 ∷ 3 ∷ 4 ∷ 5 ∷ 6 ∷ 7 ∷ 13 ∷ []) (answer_number (growing img x).answer ∷ [])
-  unfolding growing growUnless span
+  unfolding growing grow_unless span
   grow-answers (Refused s) w =
       record { allowed = Memᴰ.tail (Memᴰ.append_left (13 ∷ []) (in_span 2 6 (stage_number s) (stage-least s) (omega arith))); zeros = λ _. refl }
-  grow-answers (Ready z c) w = by-room (noBulk z (length img))
+  grow-answers (Ready z c) w = by-room (no_bulk z (length img))
     where
-      by-room : (r : Bool) → Answers (0 ∷ 2 ∷ 3 ∷ 4 ∷ 5 ∷ 6 ∷ 7 ∷ 13 ∷ []) (answer_number (growUnless z img r).answer ∷ [])
+      by-room : (r : Bool) → Answers (0 ∷ 2 ∷ 3 ∷ 4 ∷ 5 ∷ 6 ∷ 7 ∷ 13 ∷ []) (answer_number (grow_unless z img r).answer ∷ [])
       by-room true = record { allowed = Memᴰ.tail (Memᴰ.append_right (span 2 6) (Memᴰ.head refl)); zeros = λ _. refl }
       by-room false = record { allowed = Memᴰ.head refl; zeros = λ ne. absurd (ne refl) }
 
   grow-refused : (x : Examined) → answer_number (growing img x).answer ≢ 0 → (growing img x).image ≡ img
-  unfolding growing growUnless
+  unfolding growing grow_unless
   grow-refused (Refused s) n = refl
-  grow-refused (Ready z c) n = by-room (noBulk z (length img)) n
+  grow-refused (Ready z c) n = by-room (no_bulk z (length img)) n
     where
-      by-room : (r : Bool) → answer_number (growUnless z img r).answer ≢ 0 → (growUnless z img r).image ≡ img
+      by-room : (r : Bool) → answer_number (grow_unless z img r).answer ≢ 0 → (grow_unless z img r).image ≡ img
       by-room true n = refl
       by-room false n = absurd (n refl)
 
@@ -176,11 +176,11 @@ looked-not-8 img key (Ready z c) n = by-find (find z img key)
     by-find (some e) = omega arith
 
 stored-not-8 : (policy : Policy) (img key value : List ℕ) (x : Examined) → Not8 x → answer_number (storing policy img key value x).answer ≢ 8
-unfolding storing storeUnless
+unfolding storing store_unless
 stored-not-8 policy img key value (Refused s) n = n
-stored-not-8 policy img key value (Ready z c) n = by-room (noRoom z img key value)
+stored-not-8 policy img key value (Ready z c) n = by-room (no_room z img key value)
   where
-    by-room : (r : Bool) → answer_number (storeUnless policy z img key value r).answer ≢ 8
+    by-room : (r : Bool) → answer_number (store_unless policy z img key value r).answer ≢ 8
     by-room true = omega arith
     by-room false = omega arith
 

@@ -26,7 +26,7 @@ use Rattle.image.specs.Check.{check}
 use Rattle.placement.proofs.Rewriting.{Rewrites, rewritten}
 use Rattle.edit.specs.declared.Policy.{Policy}
 use Rattle.edit.specs.declared.Policy.TheVariants.{OnTheSpot, Tight}
-use Rattle.edit.specs.Edits.{find, noRoom, on_the_spot, spot_of, stored_entry, store_image}
+use Rattle.edit.specs.Edits.{find, no_room, on_the_spot, spot_of, stored_entry, store_image}
 use Rattle.edit.specs.Replaced.{Storable}
 use Rattle.edit.proofs.Finding.{found-only}
 use Rattle.edit.proofs.Replacing.{live-key-fits, live-most}
@@ -36,7 +36,7 @@ use Rattle.edit.proofs.OnTheSpot.{WritesOver, rewrites, spot_is}
 use Rattle.edit.proofs.Stored.{store-sound, store-pairs}
 use Rattle.chronicle_map.specs.declared.Answer.TheVariants as answer
 use Rattle.chronicle_map.specs.Asked.{an_entry, given_key_fits?, given_value_fits?, after_value, after_key}
-use Rattle.chronicle_map.specs.Calls.{Edited, answer_number, storeUnless, storing, store}
+use Rattle.chronicle_map.specs.Calls.{Edited, answer_number, store_unless, storing, store}
 use Rattle.chronicle_map.specs.History.{stores, map_of, map_get, told_of}
 use Rattle.chronicle_map.specs.Demands.{shape, Accepted}
 use Rattle.chronicle_map.proofs.Weights.{Weigh}
@@ -49,11 +49,11 @@ module _ (block img : List ℕ) (h : Holds block img) where
   abbrev z : Shape
   z = shape block img
 
-  module _ (key value : List ℕ) (room : noRoom z img key value ≡ false) (policy : Policy) where
+  module _ (key value : List ℕ) (room : no_room z img key value ≡ false) (policy : Policy) where
     -- ---- 10 is not answered
 
     pub not-10 : answer_number (store policy block img key value).answer ≢ 10
-    unfolding storeUnless
+    unfolding store_unless
     not-10 =
         store-by-cases block img h policy key value (λ x. answer_number x.answer ≢ 10) (omega arith) (omega arith)
         (λ k v. rw room (omega arith))
@@ -62,13 +62,13 @@ module _ (block img : List ℕ) (h : Holds block img) where
 
     store_is : KeyFits z.settings key → ValueFits z.settings (length key) (length value)
         → store policy block img key value ≡ record { answer = answer.Done; image = store_image policy z img key value }
-    unfolding store storing storeUnless after_key after_value
+    unfolding store storing store_unless after_key after_value
     store_is k v =
         ap (storing policy img key value)
         (asked-holds block img h (an_entry key value)
         ∙ choose_yes (given_key_fits? z.settings (an_entry key value)) _ _ k
         ∙ choose_yes (given_value_fits? z.settings (an_entry key value)) _ _ v)
-        ∙ ap (storeUnless policy z img key value) room
+        ∙ ap (store_unless policy z img key value) room
 
 -- an entry that is replaced by one of as many chunks
 pub record Replacement (block img : List ℕ) (e : Live) (key value : List ℕ) : Type 0 where
@@ -97,7 +97,7 @@ module _ {block img : List ℕ} {e : Live} {key value : List ℕ} (r : Replaceme
             record { not_longer = r.long; not_too_many = omega (arith, r.as_many, live-most z' img r.holds.sound e (live_in_lem z' img e r.is_live)) };
       }
 
-  room : noRoom z' img key value ≡ false
+  room : no_room z' img key value ≡ false
   unfolding shape_of
   room = replacement-room z' img r.holds.sound key value e found (omega (arith, r.as_many))
 

@@ -19,17 +19,17 @@ use Rattle.entries.specs.Keys.{KeyFits}
 use Rattle.entries.specs.Stored.{ValueFits}
 use Rattle.entries.specs.Pairs.{Pair, pair_of, pairs_of}
 use Rattle.sound.specs.Sound.{SoundImage}
-use Rattle.growing.specs.Growing.{grown, noBulk, grow_image}
+use Rattle.growing.specs.Growing.{grown, no_bulk, grow_image}
 use Rattle.growing.proofs.Sound.{grow-sound, grow-pairs}
 use Rattle.edit.specs.declared.Policy.{Policy}
 use Rattle.image.specs.declared.Stage.TheVariants.{Key, Value}
 use Rattle.image.specs.declared.Examined.{Examined}
 use Rattle.image.specs.Check.{counts_of}
-use Rattle.edit.specs.Edits.{find, noRoom, store_image}
+use Rattle.edit.specs.Edits.{find, no_room, store_image}
 use Rattle.edit.specs.Replaced.{Storable}
 use Rattle.chronicle_map.specs.declared.Answer.TheVariants as answer
 use Rattle.chronicle_map.specs.Asked.{Given, a_key, an_entry, GivenKeyFits, given_key_fits?, GivenValueFits, given_value_fits?, after_value, after_key, after_examined, asked}
-use Rattle.chronicle_map.specs.Calls.{number_of, from_find, looked_up, lookup, lookup_numbers, record_at, record_length, record_bytes, Edited, answer_number, removeFound, removing, remove, storeUnless, storing, store, growUnless, growing, grow}
+use Rattle.chronicle_map.specs.Calls.{number_of, from_find, looked_up, lookup, lookup_numbers, record_at, record_length, record_bytes, Edited, answer_number, remove_found, removing, remove, store_unless, storing, store, grow_unless, growing, grow}
 use Rattle.chronicle_map.specs.History.{Call, looks_up, stores, removes, grows, Said, says, leaves, told_of, Map, has_key, map_of, map_get, map_set, map_drop, Recalled, map_lookup, map_remove, map_store, map_grow, unless_value, unless_key, unless, recall}
 use Rattle.edit.proofs.Without.{remove-sound, remove-pairs}
 use Rattle.edit.proofs.Stored.{store-sound, store-pairs}
@@ -48,7 +48,7 @@ asked-holds block img h g = ap (after_examined g) (holds-ready block img h)
 module _ (block img : List ℕ) (h : Holds block img) (policy : Policy) (key value : List ℕ) (P : Edited → Type 0)
     (badKey : P (record { answer = answer.Refused Key; image = img })) (badValue : P (record { answer = answer.Refused Value; image = img }))
     (fits : KeyFits (shape block img).settings key → ValueFits (shape block img).settings (length key) (length value)
-    → P (storeUnless policy (shape block img) img key value (noRoom (shape block img) img key value))) where
+    → P (store_unless policy (shape block img) img key value (no_room (shape block img) img key value))) where
   abbrev st : Settings
   st = (shape block img).settings
 
@@ -109,8 +109,8 @@ module _ (block img : List ℕ) (h : Holds block img) (m : Map) (w : Weigh (map_
     pub weighs : Weigh (map_of block x.image) r.map
 
   removed : (key : List ℕ) (o : Option Live) (q : Option Pair) → find z img key ≡ o → map_get m key ≡ q
-      → Agrees (removeFound z img key o) (map_remove m key q)
-  unfolding removeFound map_remove map_drop has_key
+      → Agrees (remove_found z img key o) (map_remove m key q)
+  unfolding remove_found map_remove map_drop has_key
   removed key none none f g = record { said = refl; holds = h; weighs = w }
   removed key none (some p) f g =
       let e : some p ≡ none = sym g ∙ map-none z img h.sound m w key f in
@@ -134,9 +134,9 @@ module _ (block img : List ℕ) (h : Holds block img) (m : Map) (w : Weigh (map_
   remove-agrees key (yes k) = removed key (find z img key) (map_get m key) refl refl
 
   module _ (policy : Policy) (key value : List ℕ) (key_bytes : Bytes key) (value_bytes : Bytes value) where
-    stored : GivenKeyFits z.settings (an_entry key value) → GivenValueFits z.settings (an_entry key value) → (b : Bool) → noRoom z img key value ≡ b
-        → Agrees (storeUnless policy z img key value b) (map_store m key value b)
-    unfolding storeUnless map_store map_drop has_key total
+    stored : GivenKeyFits z.settings (an_entry key value) → GivenValueFits z.settings (an_entry key value) → (b : Bool) → no_room z img key value ≡ b
+        → Agrees (store_unless policy z img key value b) (map_store m key value b)
+    unfolding store_unless map_store map_drop has_key total
     stored k v true e = record { said = refl; holds = h; weighs = w }
     stored k v false e =
         let s : Storable z img key value = record { sound = h.sound; key_fits = k; value_fits = v } in
@@ -152,14 +152,14 @@ module _ (block img : List ℕ) (h : Holds block img) (m : Map) (w : Weigh (map_
         }
 
     store-value : GivenKeyFits z.settings (an_entry key value) → (d : Dec (GivenValueFits z.settings (an_entry key value))) → (b : Bool)
-        → noRoom z img key value ≡ b
+        → no_room z img key value ≡ b
         → Agrees (storing policy img key value (after_value z (counts_of z img) (an_entry key value) d))
         (unless_value z.settings (an_entry key value) m (map_store m key value b) d)
     unfolding choose after_value storing unless_value
     store-value k (no n) b e = record { said = refl; holds = h; weighs = w }
     store-value k (yes v) b e = rw e (stored k v b e)
 
-    store-agrees : (d : Dec (GivenKeyFits z.settings (an_entry key value))) → (b : Bool) → noRoom z img key value ≡ b
+    store-agrees : (d : Dec (GivenKeyFits z.settings (an_entry key value))) → (b : Bool) → no_room z img key value ≡ b
         → Agrees (storing policy img key value (after_key z (counts_of z img) (an_entry key value) d))
         (unless_key z.settings (an_entry key value) m (map_store m key value b) d)
     unfolding choose after_key storing unless_key
@@ -167,8 +167,8 @@ module _ (block img : List ℕ) (h : Holds block img) (m : Map) (w : Weigh (map_
     store-agrees (yes k) b e = store-value k (given_value_fits? z.settings (an_entry key value)) b e
 
   -- one bulk more: the map stays
-  grow-agrees : (b : Bool) → noBulk z (length img) ≡ b → Agrees (growUnless z img b) (map_grow m b)
-  unfolding growUnless map_grow
+  grow-agrees : (b : Bool) → no_bulk z (length img) ≡ b → Agrees (grow_unless z img b) (map_grow m b)
+  unfolding grow_unless map_grow
   grow-agrees true e = record { said = refl; holds = h; weighs = w }
   grow-agrees false e =
       let after : SoundImage (grown z) (grow_image z img) = grow-sound z img h.sound e in
@@ -200,10 +200,10 @@ module _ (block img : List ℕ) (h : Holds block img) (m : Map) (w : Weigh (map_
       rw (asked-holds block img h (a_key key)) (remove-agrees key (given_key_fits? z.settings (a_key key))) in
       record { said = a.said; holds = a.holds; weighs = a.weighs }
   step grows b =
-      let a : Agrees (grow block img) (map_grow m (noBulk z (length img))) = rw (holds-ready block img h) (grow-agrees (noBulk z (length img)) refl) in
+      let a : Agrees (grow block img) (map_grow m (no_bulk z (length img))) = rw (holds-ready block img h) (grow-agrees (no_bulk z (length img)) refl) in
       record { said = a.said; holds = a.holds; weighs = a.weighs }
   step (stores policy key value) b =
-      let a : Agrees (store policy block img key value) (unless z.settings (an_entry key value) m (map_store m key value (noRoom z img key value))) =
+      let a : Agrees (store policy block img key value) (unless z.settings (an_entry key value) m (map_store m key value (no_room z img key value))) =
       rw (asked-holds block img h (an_entry key value))
-      (store-agrees policy key value b.0 b.1 (given_key_fits? z.settings (an_entry key value)) (noRoom z img key value) refl) in
+      (store-agrees policy key value b.0 b.1 (given_key_fits? z.settings (an_entry key value)) (no_room z img key value) refl) in
       record { said = a.said; holds = a.holds; weighs = a.weighs }

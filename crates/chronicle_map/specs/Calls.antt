@@ -11,9 +11,9 @@ use Rattle.search.specs.Search.{first_empty}
 use Rattle.image.specs.declared.Examined.{Examined}
 use Rattle.image.specs.declared.Examined.TheVariants.{Ready, Refused}
 use Rattle.image.specs.Check.{stage_number, examine}
-use Rattle.growing.specs.Growing.{noBulk, grow_image}
+use Rattle.growing.specs.Growing.{no_bulk, grow_image}
 use Rattle.edit.specs.declared.Policy.{Policy}
-use Rattle.edit.specs.Edits.{find, removeImage, noRoom, store_image}
+use Rattle.edit.specs.Edits.{find, remove_image, no_room, store_image}
 use Rattle.chronicle_map.specs.declared.RecordPlace.{RecordPlace}
 use Rattle.chronicle_map.specs.declared.SearchEnd.{SearchEnd}
 use Rattle.chronicle_map.specs.declared.Located.{Located}
@@ -94,37 +94,37 @@ answer_number answer.NoBulk = 13
 answer_number (answer.Refused s) = stage_number s
 
 -- where the key is, its entry is removed
-unfoldable pub removeFound : Shape → List ℕ → List ℕ → Option Live → Edited
-removeFound z img key none = record { answer = answer.Absent; image = img }
-removeFound z img key (some e) = record { answer = answer.Done; image = removeImage z img key }
+unfoldable pub remove_found : Shape → List ℕ → List ℕ → Option Live → Edited
+remove_found z img key none = record { answer = answer.Absent; image = img }
+remove_found z img key (some e) = record { answer = answer.Done; image = remove_image z img key }
 
 unfoldable pub removing : List ℕ → List ℕ → Examined → Edited
 removing img key (Refused s) = record { answer = answer.Refused s; image = img }
-removing img key (Ready z c) = removeFound z img key (find z img key)
+removing img key (Ready z c) = remove_found z img key (find z img key)
 
 unfoldable pub remove : List ℕ → List ℕ → List ℕ → Edited
 remove block img key = removing img key (asked block img (a_key key))
 
 -- where the row of 10 does not hold, the entry is stored; whether it does is no matter of the policy
-unfoldable pub storeUnless : Policy → Shape → List ℕ → List ℕ → List ℕ → Bool → Edited
-storeUnless policy z img key value true = record { answer = answer.Full; image = img }
-storeUnless policy z img key value false = record { answer = answer.Done; image = store_image policy z img key value }
+unfoldable pub store_unless : Policy → Shape → List ℕ → List ℕ → List ℕ → Bool → Edited
+store_unless policy z img key value true = record { answer = answer.Full; image = img }
+store_unless policy z img key value false = record { answer = answer.Done; image = store_image policy z img key value }
 
 unfoldable pub storing : Policy → List ℕ → List ℕ → List ℕ → Examined → Edited
 storing policy img key value (Refused s) = record { answer = answer.Refused s; image = img }
-storing policy img key value (Ready z c) = storeUnless policy z img key value (noRoom z img key value)
+storing policy img key value (Ready z c) = store_unless policy z img key value (no_room z img key value)
 
 unfoldable pub store : Policy → List ℕ → List ℕ → List ℕ → List ℕ → Edited
 store policy block img key value = storing policy img key value (asked block img (an_entry key value))
 
 -- one bulk more, where there is room for it: 13 comes after 2 to 7
-unfoldable pub growUnless : Shape → List ℕ → Bool → Edited
-growUnless z img true = record { answer = answer.NoBulk; image = img }
-growUnless z img false = record { answer = answer.Done; image = grow_image z img }
+unfoldable pub grow_unless : Shape → List ℕ → Bool → Edited
+grow_unless z img true = record { answer = answer.NoBulk; image = img }
+grow_unless z img false = record { answer = answer.Done; image = grow_image z img }
 
 unfoldable pub growing : List ℕ → Examined → Edited
 growing img (Refused s) = record { answer = answer.Refused s; image = img }
-growing img (Ready z c) = growUnless z img (noBulk z (length img))
+growing img (Ready z c) = grow_unless z img (no_bulk z (length img))
 
 unfoldable pub grow : List ℕ → List ℕ → Edited
 grow block img = growing img (examine block img)

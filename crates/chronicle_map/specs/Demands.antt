@@ -22,7 +22,7 @@ use Rattle.chunks.specs.Chunks.{covers}
 use Rattle.entries.specs.Pairs.{Pair, pair_of}
 use Rattle.sound.specs.Sound.{ImageFits}
 use Rattle.counters.specs.LowMarks.{LowMarks}
-use Rattle.growing.specs.Growing.{grown, noBulk, IsNew, GrowWrites}
+use Rattle.growing.specs.Growing.{grown, no_bulk, IsNew, GrowWrites}
 use Rattle.edit.specs.declared.Policy.{Policy}
 use Rattle.edit.specs.declared.Policy.TheVariants.{OnTheSpot, Tight}
 use Rattle.unlinking.specs.GoingHome.{ChainsStay, GoneHome}
@@ -236,8 +236,8 @@ pub record Grown (block img after : List ℕ) : Type 0 where
 
 pub record Growth (block img : List ℕ) : Type 0 where
   -- 13 is answered exactly where there is no room for the bulk, and else 0
-  pub refused : noBulk (shape block img) (length img) ≡ true → answer_number (grow block img).answer ≡ 13
-  pub done : noBulk (shape block img) (length img) ≡ false → answer_number (grow block img).answer ≡ 0
+  pub refused : no_bulk (shape block img) (length img) ≡ true → answer_number (grow block img).answer ≡ 13
+  pub done : no_bulk (shape block img) (length img) ≡ false → answer_number (grow block img).answer ≡ 0
   pub grown : answer_number (grow block img).answer ≡ 0 → Grown block img (grow block img).image
 
 -- ---- request A13, for an accepted image: an extra tier that an edit empties goes home

@@ -9,9 +9,9 @@ use Rattle.settings.specs.declared.Settings.{Settings}
 use Rattle.settings.specs.Block.{settings_of}
 use Rattle.layout.specs.Frame.{shape_of}
 use Rattle.entries.specs.Pairs.{Pair, pairs_of}
-use Rattle.growing.specs.Growing.{noBulk}
+use Rattle.growing.specs.Growing.{no_bulk}
 use Rattle.edit.specs.declared.Policy.{Policy}
-use Rattle.edit.specs.Edits.{noRoom}
+use Rattle.edit.specs.Edits.{no_room}
 use Rattle.chronicle_map.specs.Asked.{Given, a_key, an_entry, GivenKeyFits, given_key_fits?, GivenValueFits, given_value_fits?}
 use Rattle.chronicle_map.specs.Calls.{number_of, lookup, lookup_numbers, record_bytes, remove, store, grow, answer_number}
 
@@ -45,9 +45,9 @@ module _ (block : List ℕ) where
   -- what the map is told of a call: whether the row of 10 holds for the image that a store gets, and whether 13 applies to a grow
   unfoldable pub told_of : List ℕ → Call → Bool
   told_of img (looks_up key) = false
-  told_of img (stores policy key value) = noRoom (shape_of (settings_of block) img) img key value
+  told_of img (stores policy key value) = no_room (shape_of (settings_of block) img) img key value
   told_of img (removes key) = false
-  told_of img grows = noBulk (shape_of (settings_of block) img) (length img)
+  told_of img grows = no_bulk (shape_of (settings_of block) img) (length img)
 
   -- a list of calls, each on the image as the last one left it: the image at the end, what each call answered, what the map is told of each
   abbrev pub run : List ℕ → List Call → List ℕ

@@ -1,16 +1,18 @@
 // The calls over a lent image. Each takes any bytes, checks them itself, and answers.
+#![tactic(auto)]
+
 ghost use Rattle.std.specs.Prelude.{◌≡◌, ◌≤◌, length};
 ghost use Rattle.entries.specs.Keys.{KeyFits};
 ghost use Rattle.entries.specs.Stored.{ValueFits};
 ghost use Rattle.sound.specs.Sound.{SoundImage};
-ghost use Rattle.growing.specs.Growing.{noBulk};
+ghost use Rattle.growing.specs.Growing.{no_bulk as growing_no_bulk};
 ghost use Rattle.edit.specs.declared.Policy.TheVariants.{OnTheSpot, Tight};
-ghost use Rattle.edit.specs.Edits.{find, noRoom};
+ghost use Rattle.edit.specs.Edits.{find, no_room};
 ghost use Rattle.edit.specs.Replaced.{Storable};
 ghost use Rattle.image.specs.Check.{check as check_check};
 ghost use Rattle.image.specs.List.{entry as list_entry};
 ghost use Rattle.chronicle_map.specs.Asked.{a_key, an_entry, asked};
-ghost use Rattle.chronicle_map.specs.Calls.{from_find, lookup as calls_lookup, RecordOf, Edited, removeFound, remove as calls_remove, storeUnless, store as calls_store, growUnless, grow as calls_grow};
+ghost use Rattle.chronicle_map.specs.Calls.{from_find, lookup as calls_lookup, RecordOf, Edited, remove_found, remove as calls_remove, store_unless, store as calls_store, grow_unless, grow as calls_grow};
 
 use edit::Policy;
 use entries::ValueSize;
@@ -20,7 +22,7 @@ use search::Found;
 
 // Where a record stands: its offset in the image, its length, and the tier and slot of its entry. Two fields side by side that a caller's
 // array has side by side too would be copied as one, and that copy would wait until both are stored; so the length stands after the tier.
-#[derive(Drop)]
+#[derive(Clone, Copy)]
 pub struct RecordPlace {
     pub offset: usize,
     pub tier: usize,
@@ -29,14 +31,14 @@ pub struct RecordPlace {
 }
 
 // Where the search for an absent key ended: the last tier of the key's chain, and the empty slot there.
-#[derive(Drop)]
+#[derive(Clone, Copy)]
 pub struct SearchEnd {
     pub tier: usize,
     pub slot: usize,
 }
 
 // A lookup's answer: where the record stands; none, and where the search ended; a refusal.
-#[derive(Drop)]
+#[derive(Clone, Copy)]
 pub enum Located {
     Found(RecordPlace),
     Absent(SearchEnd),
@@ -44,7 +46,7 @@ pub enum Located {
 }
 
 // An edit's answer: done; no such key; no tier takes the entry; no room for one more bulk; a refusal.
-#[derive(Drop)]
+#[derive(Clone, Copy)]
 pub enum Answer {
     Done,
     Absent,
@@ -143,7 +145,7 @@ pub fn record<'a>(block: &[u8], img: &'a [u8], key: &[u8]) -> &'a [u8]
 fn remove_accepted(z: Shape, img: &mut [u8], key: &[u8]) -> Answer
     requires { SoundImage z img.old }
     ensures { record { answer = result; image = img.new }
-        ≡ removeFound z img.old key.now (find z img.old key.now) }
+        ≡ remove_found z img.old key.now (find z img.old key.now) }
 {
     if edit::remove(z, img, key) {
         return Answer::Done;
@@ -165,8 +167,8 @@ pub fn remove(block: &[u8], img: &mut [u8], key: &[u8]) -> Answer
 fn store_accepted(z: Shape, img: &mut [u8], key: &[u8], value: &[u8], policy: Policy) -> Answer
     requires { Storable z img.old key.now value.now }
     ensures { record { answer = result; image = img.new }
-        ≡ storeUnless policy z img.old key.now value.now
-        (noRoom z img.old key.now value.now) }
+        ≡ store_unless policy z img.old key.now value.now
+        (no_room z img.old key.now value.now) }
 {
     if edit::store(z, img, key, value, policy) {
         return Answer::Done;
@@ -205,7 +207,7 @@ pub fn store_tight(block: &[u8], img: &mut [u8], key: &[u8], value: &[u8]) -> An
 fn grow_accepted(z: Shape, img: &mut [u8]) -> Answer
     requires { SoundImage z img.old }
     ensures { record { answer = result; image = img.new }
-        ≡ growUnless z img.old (noBulk z (length img.old)) }
+        ≡ grow_unless z img.old (growing_no_bulk z (length img.old)) }
 {
     if growing::no_bulk(z, img) {
         return Answer::NoBulk;

@@ -1,5 +1,7 @@
 // The calls for C and Rust (include/chronicle_map.h). Each returns the number of its answer; what it
 // tells beside that goes to an array of the caller's, which is written on every call.
+#![tactic(auto)]
+
 ghost use Rattle.std.specs.Prelude.{◌≡◌, ◌∷◌};
 ghost use Rattle.xxh64.specs.Hash.{xxh64 as hash_xxh64};
 ghost use Rattle.edit.specs.declared.Policy.TheVariants.{OnTheSpot, Tight};

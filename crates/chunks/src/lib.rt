@@ -1,4 +1,6 @@
 // The free lists, and the chunks that entries cover.
+#![tactic(auto)]
+
 ghost use Rattle.std.specs.Prelude.{◌≡◌, ◌+◌, ◌*◌, ◌/◌, ◌<◌, ◌≤◌, length, get_or};
 ghost use Rattle.lists.specs.Decide.{Decides};
 ghost use Rattle.lists.specs.Lists.{span};
@@ -16,7 +18,7 @@ ghost use Rattle.chunks.specs.Asking.{CanCount, WholeByte, CanCompare, FramedFre
 use layout::Shape;
 
 // Whether the bits of a tier are the counts of its chunks: how many are 1, or that one is not.
-#[derive(Drop)]
+#[derive(Clone, Copy)]
 pub enum Compared {
     Same(usize),
     Differ,

@@ -14,7 +14,7 @@ use Rattle.layout.specs.Frame.{Framed}
 use Rattle.chains.specs.Chains.{next_of, chain}
 use Rattle.probe.specs.Ring.{dist}
 use Rattle.probe.proofs.Ring.{dist-inj}
-use Rattle.entries.specs.Keys.{lookup_key, start, slotKey}
+use Rattle.entries.specs.Keys.{lookup_key, start, slot_key}
 use Rattle.entries.specs.Live.{slot_at, full_slots}
 use Rattle.entries.proofs.Hashes.{start-lt}
 use Rattle.entries.proofs.LiveLists.{in_full_slots}
@@ -39,13 +39,13 @@ module _ (z : Shape) (img : List ℕ) (s : ℕ) where
     not-before : (j k : ℕ) → j < slots → k < slots → slot_at z img t j ≢ 0 → slot_at z img t k ≢ 0 → keyAt z img t j ≡ keyAt z img t k
         → dist slots (start_at z img t j) k < dist slots (start_at z img t j) j → ⊥
     not-before j k hj hk fj fk e d =
-        let lookup : slotKey settings (slot_at z img t k) ≡ lookup_key settings (keyAt z img t j) =
+        let lookup : slot_key settings (slot_at z img t k) ≡ lookup_key settings (keyAt z img t j) =
         sym (fits.slots_fit.full k hk fk).hashed.lookup_agrees ∙ ap (lookup_key settings) (sym e) in
         false≢true (sym (alone j (in_full_slots z img t j hj fj) k hk d) ∙ hits-own z img (keyAt z img t j) t k lookup (sym e))
 
     one-slot : (j k : ℕ) → j < slots → k < slots → slot_at z img t j ≢ 0 → slot_at z img t k ≢ 0 → keyAt z img t j ≡ keyAt z img t k → j ≡ k
     one-slot j k hj hk fj fk e =
-        let lookup : slotKey settings (slot_at z img t k) ≡ slotKey settings (slot_at z img t j) =
+        let lookup : slot_key settings (slot_at z img t k) ≡ slot_key settings (slot_at z img t j) =
         sym (fits.slots_fit.full k hk fk).hashed.lookup_agrees ∙ ap (lookup_key settings) (sym e)
         ∙ (fits.slots_fit.full j hj fj).hashed.lookup_agrees in
         let from : start_at z img t k ≡ start_at z img t j = ap (start settings) lookup in

@@ -1,4 +1,6 @@
 // What the tiers of an image hold: the rules of slots and entries and those of chunks and counters, tier by tier in one pass.
+#![tactic(auto)]
+
 ghost use Rattle.std.specs.Prelude.{◌≡◌};
 ghost use Rattle.search.specs.Asking.{ChainedTier};
 ghost use Rattle.lists.specs.Decide.{Decides};
@@ -15,7 +17,7 @@ use search::reach::Run;
 use search::rules::Slot;
 
 // All rules hold, with the live entries and the marked chunks; a rule of chunks or counters is broken; a rule of slots or entries is.
-#[derive(Drop)]
+#[derive(Clone, Copy)]
 pub enum Contents {
     Fit(usize, usize),
     BadChunks,
@@ -29,14 +31,14 @@ const STEPS: usize = 4;
 const FEW: usize = 16;
 
 // What was found of a tier, and whether it is known that no two of its full slots have the same key.
-#[derive(Drop)]
+#[derive(Clone, Copy)]
 struct Tier {
     contents: Contents,
     apart: bool,
 }
 
 // The full slots of a tier meet what is asked of them one by one, and it is known, or not, that their keys differ; or one does not.
-#[derive(Drop)]
+#[derive(Clone, Copy)]
 enum Covered {
     Held(bool),
     Broken,

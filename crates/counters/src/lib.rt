@@ -1,4 +1,6 @@
 // What edits keep: the counters of a tier, counted anew.
+#![tactic(auto)]
+
 ghost use Rattle.std.specs.Prelude.{◌≡◌, length};
 ghost use Rattle.layout.specs.Tiers.{IsTier};
 ghost use Rattle.layout.specs.Frame.{Framed};

@@ -32,7 +32,7 @@ use Rattle.unlinking.specs.Unlinking.{unlink_empty}
 use Rattle.unlinking.specs.Asking.{CanUnlinkEmpty}
 use Rattle.unlinking.specs.GoingHome.{ChainsStay, GoneHome}
 use Rattle.unlinking.proofs.Home.{stay_then, gone-home, stays}
-use Rattle.edit.specs.Edits.{find, without, removed_entry, removeImage, remove_tiers, tier_of, left, run_of, noRoom, place_in, tier_for, taking_tier, entry_in, stored_entry}
+use Rattle.edit.specs.Edits.{find, without, removed_entry, remove_image, remove_tiers, tier_of, left, run_of, no_room, place_in, tier_for, taking_tier, entry_in, stored_entry}
 use Rattle.edit.specs.Replaced.{Storable}
 use Rattle.edit.proofs.Finding.{find-live}
 use Rattle.edit.proofs.Without.{without-found, without-sound, without-left, remove-leaves}
@@ -86,8 +86,8 @@ module _ (z : Shape) (img : List ℕ) (sound : SoundImage z img) (key : List ℕ
       ap (λ (i : List ℕ). full_slots z i e.tier) (without-found z img sound key e f) in
       omega (arith, ap length same, ap length out, removal_full z img (sound-but z img sound) e m)
 
-  removed-is : removeImage z img key ≡ unlink_empty z settled e.tier
-  unfolding removeImage removed_entry without
+  removed-is : remove_image z img key ≡ unlink_empty z settled e.tier
+  unfolding remove_image removed_entry without
   removed-is = ap (λ (o : Option Live). unlink_empty z settled (tier_of o)) f
 
   settled-sound : SoundImage z settled
@@ -99,15 +99,15 @@ module _ (z : Shape) (img : List ℕ) (sound : SoundImage z img) (key : List ℕ
     still_in : Memᴰ e.tier (chain z settled e.segment)
     still_in = subst (Memᴰ e.tier) (sym (settled-stay.segments e.segment found.segment_in)) found.tier_in
 
-    pub removal_home : (xs : List ℕ) × (ys : List ℕ) × GoneHome z img (removeImage z img key) e.segment e.tier xs ys
+    pub removal_home : (xs : List ℕ) × (ys : List ℕ) × GoneHome z img (remove_image z img key) e.segment e.tier xs ys
     removal_home =
         let g : (xs : List ℕ) × (ys : List ℕ) × GoneHome z settled (unlink_empty z settled e.tier) e.segment e.tier xs ys =
         gone-home z settled e.segment e.tier settled-sound extra found.segment_in still_in (omega (arith, settled-full, alone)) in
         (g.0, g.1, rw removed-is (stay_then found.segment_in settled-stay g.2))
 
-  pub removal_stays : (z.settings.segments < e.tier → length (full_slots z img e.tier) ≢ 1) → ChainsStay z img (removeImage z img key)
+  pub removal_stays : (z.settings.segments < e.tier → length (full_slots z img e.tier) ≢ 1) → ChainsStay z img (remove_image z img key)
   removal_stays more =
-      let same : removeImage z img key ≡ settled =
+      let same : remove_image z img key ≡ settled =
       removed-is ∙ stays z settled e.segment e.tier settled-sound (λ h q. more h (omega (arith, settled-full, q))) in
       rw same settled-stay
 
@@ -118,7 +118,7 @@ module _ (z : Shape) (img : List ℕ) (sound : SoundImage z img) (key : List ℕ
     none_left : length (full_slots z (remove_entry z img e) e.tier) ≡ 0
     none_left = omega (arith, removal_full z img (sound-but z img sound) e m, alone)
 
-    room : noRoom z img key value ≡ false
+    room : no_room z img key value ≡ false
     room = emptied-room z img sound key value e f none_left w.value_fits
 
     abbrev img₁ : List ℕ

@@ -24,7 +24,7 @@ use Rattle.removal.specs.Removal.{remove_entry}
 use Rattle.removal.proofs.Removing.{removal_full, removal_full-other}
 use Rattle.unlinking.specs.GoingHome.{GoneHome}
 use Rattle.unlinking.proofs.Leaving.{leaving-tiers}
-use Rattle.edit.specs.Edits.{find, without_entry, without, removed_entry, removeImage, remove_tiers, tier_of, noRoom, taking_tier, entry_in, stored_entry, spot_of, store_image}
+use Rattle.edit.specs.Edits.{find, without_entry, without, removed_entry, remove_image, remove_tiers, tier_of, no_room, taking_tier, entry_in, stored_entry, spot_of, store_image}
 use Rattle.edit.specs.declared.Policy.{Policy}
 use Rattle.edit.specs.Replaced.{Storable}
 use Rattle.placement.proofs.Rewriting.{rewrite-slots}
@@ -47,15 +47,15 @@ home-not-chained z img {t} sound free c =
 module _ (z : Shape) (img : List ℕ) (sound : SoundImage z img) (key : List ℕ) where
   -- every tier's full slots, after the tier has gone or stayed
   removal_full-slots : (t : ℕ) → IsTier z t
-      → full_slots z (removeImage z img key) t ≡ full_slots z (without z img key) t
-  unfolding removeImage removed_entry without
+      → full_slots z (remove_image z img key) t ≡ full_slots z (without z img key) t
+  unfolding remove_image removed_entry without
   removal_full-slots t is =
       let settled : List ℕ = settle z (without z img key) (remove_tiers z img key) in
-      same_full z settled (removeImage z img key) t (leaving-tiers z settled (tier_of (find z img key)) (remove-leaves z img sound key) t is).0.slots
+      same_full z settled (remove_image z img key) t (leaving-tiers z settled (tier_of (find z img key)) (remove-leaves z img sound key) t is).0.slots
       ∙ same_full z (without z img key) settled t
       (settle-slots z (remove_tiers z img key) (without z img key) (without-sound z img sound key) (without-left z img sound key) t is)
 
-  module _ (t : ℕ) (extra : IsExtra z t) (some-before : length (full_slots z img t) ≢ 0) (none_after : length (full_slots z (removeImage z img key) t) ≡ 0)
+  module _ (t : ℕ) (extra : IsExtra z t) (some-before : length (full_slots z img t) ≢ 0) (none_after : length (full_slots z (remove_image z img key) t) ≡ 0)
     where
       is : IsTier z t
       is = omega arith
@@ -63,7 +63,7 @@ module _ (z : Shape) (img : List ℕ) (sound : SoundImage z img) (key : List ℕ
       removed-none : length (full_slots z (without z img key) t) ≡ 0
       removed-none = sym (ap length (removal_full-slots t is)) ∙ none_after
 
-      removal_left : (o : Option Live) → find z img key ≡ o → Memᴰ t (chained z (removeImage z img key)) → ⊥
+      removal_left : (o : Option Live) → find z img key ≡ o → Memᴰ t (chained z (remove_image z img key)) → ⊥
       unfolding without without_entry
       removal_left none f c = some-before (rw f at removed-none)
       removal_left (some e) f c =
@@ -73,19 +73,19 @@ module _ (z : Shape) (img : List ℕ) (sound : SoundImage z img) (key : List ℕ
           (λ (q : t ≡ e.tier).
           let one : length (full_slots z img e.tier) ≡ 1 =
           omega (arith, removal_full z img (sound-but z img sound) e m, ap (λ (i : ℕ). length (full_slots z (remove_entry z img e) i)) q, out) in
-          let home : (xs : List ℕ) × (ys : List ℕ) × GoneHome z img (removeImage z img key) e.segment e.tier xs ys =
+          let home : (xs : List ℕ) × (ys : List ℕ) × GoneHome z img (remove_image z img key) e.segment e.tier xs ys =
           removal_home z img sound key e f one (omega (arith, extra.0, q)) in
           home-not-chained z _ (remove-sound z img sound key) (home.2.free ∙ ap (λ (i : ℕ). i ∷ free_chain z img) (sym q)) c)
           (λ (ne : t ≢ e.tier). some-before (sym (removal_full-other z img (sound-but z img sound) e m t is ne) ∙ out))
           (same_or t e.tier)
 
-      pub removal_leaves-none : Memᴰ t (chained z (removeImage z img key)) → ⊥
+      pub removal_leaves-none : Memᴰ t (chained z (remove_image z img key)) → ⊥
       removal_leaves-none = removal_left (find z img key) refl
 
 -- ---- a store
 
 module _ (policy : Policy) (z : Shape) (img key value : List ℕ) (w : Storable z img key value) (key_bytes : Bytes key) (value_bytes : Bytes value)
-    (room : noRoom z img key value ≡ false) (t : ℕ) (extra : IsExtra z t) (some-before : length (full_slots z img t) ≢ 0) where
+    (room : no_room z img key value ≡ false) (t : ℕ) (extra : IsExtra z t) (some-before : length (full_slots z img t) ≢ 0) where
   is-tier : IsTier z t
   is-tier = omega arith
 

@@ -36,8 +36,8 @@ use Rattle.joining.specs.Joining.{join}
 use Rattle.unlinking.specs.Unlinking.{unlink_empty}
 use Rattle.unlinking.specs.Asking.{CanUnlinkEmpty}
 use Rattle.unlinking.proofs.Emptied.{main-stays}
-use Rattle.edit.specs.Edits.{find, without_entry, without, left, removed_entry, removeImage, tier_of}
-use Rattle.edit.specs.Replaced.{old_of, without_old, placed_old, replaced_old, extended_old, OldFits, isThere}
+use Rattle.edit.specs.Edits.{find, without_entry, without, left, removed_entry, remove_image, tier_of}
+use Rattle.edit.specs.Replaced.{old_of, without_old, placed_old, replaced_old, extended_old, OldFits, is_there}
 use Rattle.edit.proofs.Finding.{find-live, search-found, search-none}
 use Rattle.edit.proofs.Without.{remove-leaves}
 
@@ -145,13 +145,13 @@ module _ (z : Shape) (img : List ℕ) (sound : SoundImage z img) where
     tier-by none = refl
     tier-by (some e) = refl
 
-    none-by : (o : Option Live) → find z img key ≡ o → tier_of o ≡ 0 → (false ≡ isThere o) × (img ≡ removed_entry z img o)
+    none-by : (o : Option Live) → find z img key ≡ o → tier_of o ≡ 0 → (false ≡ is_there o) × (img ≡ removed_entry z img o)
     unfolding removed_entry without_entry settle
     none-by none f q = (refl, sym (main-stays z img 0 (omega arith)))
     none-by (some e) f q = absurd (found-tier e f q)
 
     some-by : (o : Option Live) → tier_of o ≢ 0
-        → (true ≡ isThere o) × (unlink_empty z (recount z (without_entry z img o) (tier_of o)) (tier_of o) ≡ removed_entry z img o)
+        → (true ≡ is_there o) × (unlink_empty z (recount z (without_entry z img o) (tier_of o)) (tier_of o) ≡ removed_entry z img o)
     unfolding removed_entry without_entry settle
     some-by none q = absurd (q refl)
     some-by (some e) q = (refl, refl)
@@ -168,8 +168,8 @@ module _ (z : Shape) (img : List ℕ) (sound : SoundImage z img) where
       old-tier = ap (λ (x : Old). x.tier) is ∙ tier-by (find z img key)
 
       -- a removal, where there is none and where there is one
-      pub removes-none : old.tier ≡ 0 → (false ≡ isThere (find z img key)) × (img ≡ removeImage z img key)
-      unfolding removeImage
+      pub removes-none : old.tier ≡ 0 → (false ≡ is_there (find z img key)) × (img ≡ remove_image z img key)
+      unfolding remove_image
       removes-none q = none-by (find z img key) refl (sym old-tier ∙ q)
 
       module _ (q : old.tier ≢ 0) {x y : List ℕ} (ex : x ≡ without_old z img old) (ey : y ≡ recount z x old.tier) where
@@ -186,11 +186,11 @@ module _ (z : Shape) (img : List ℕ) (sound : SoundImage z img) where
             subst₂ (CanUnlinkEmpty z) (settled-by (find z img key) (λ e. q (old-tier ∙ e)) ∙ sym recounted) (sym old-tier)
             (remove-leaves z img sound key)
 
-        pub removes-some : {i : List ℕ} → i ≡ unlink_empty z y old.tier → (true ≡ isThere (find z img key)) × (i ≡ removeImage z img key)
-        unfolding removeImage without
+        pub removes-some : {i : List ℕ} → i ≡ unlink_empty z y old.tier → (true ≡ is_there (find z img key)) × (i ≡ remove_image z img key)
+        unfolding remove_image without
         removes-some ei =
             let o : Option Live = find z img key in
-            let r : (true ≡ isThere o) × (unlink_empty z (recount z (without_entry z img o) (tier_of o)) (tier_of o) ≡ removeImage z img key) =
+            let r : (true ≡ is_there o) × (unlink_empty z (recount z (without_entry z img o) (tier_of o)) (tier_of o) ≡ remove_image z img key) =
             some-by o (λ e. q (old-tier ∙ e)) in
             (r.0, ei ∙ ap₂ (unlink_empty z) recounted old-tier ∙ r.1)
 

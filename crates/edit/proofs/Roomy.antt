@@ -25,10 +25,10 @@ use Rattle.removal.specs.Removal.{remove_entry}
 use Rattle.removal.proofs.Removing.{removal_sound, removal_chain, removal_mark_in, removal_full}
 use Rattle.placement.specs.declared.Run.{Run}
 use Rattle.placement.specs.declared.Run.TheVariants.{At, Nowhere}
-use Rattle.placement.specs.Runs.{firstRun, run_for, full_in}
+use Rattle.placement.specs.Runs.{first_run, run_for, full_in}
 use Rattle.placement.proofs.Running.{Takes, run-found}
 use Rattle.placement.proofs.Taking.{first_taken, first-within, some-empty-few}
-use Rattle.edit.specs.Edits.{find, without, run_of, nowhere_to_go, noRoom}
+use Rattle.edit.specs.Edits.{find, without, run_of, nowhere_to_go, no_room}
 use Rattle.edit.proofs.Finding.{find-live, live-segment}
 use Rattle.edit.proofs.Without.{without-found, without-head}
 use Rattle.edit.proofs.Replacing.{live-range}
@@ -40,8 +40,8 @@ module _ (z : Shape) (img : List ℕ) (sound : SoundImage z img) (key value : Li
   free-room (At t c) = refl
   free-room Nowhere = ne_eqb _ 0 (λ e. ne (sym (without-head z img sound key) ∙ e))
 
-  pub room-when-free : noRoom z img key value ≡ false
-  unfolding noRoom
+  pub room-when-free : no_room z img key value ≡ false
+  unfolding no_room
   room-when-free = free-room (run_of z (without z img key) key value)
 
 -- ---- a replacement
@@ -93,8 +93,8 @@ module _ (z : Shape) (img : List ℕ) (sound : SoundImage z img) (key value : Li
   room_by (At t c) ne = refl
   room_by Nowhere ne = absurd (ne refl)
 
-  pub replacement-room : chunks_for z.settings (length key) (length value) ≤ e.chunks → noRoom z img key value ≡ false
-  unfolding noRoom
+  pub replacement-room : chunks_for z.settings (length key) (length value) ≤ e.chunks → no_room z img key value ≡ false
+  unfolding no_room
   replacement-room h = room_by _ (run_by e.chunk (own-takes h))
 
   -- ---- where the old entry was alone in its tier, that tier is clear and takes any entry
@@ -116,8 +116,8 @@ module _ (z : Shape) (img : List ℕ) (sound : SoundImage z img) (key value : Li
     pub emptied-run : run_of z (without z img key) key value ≢ Nowhere
     emptied-run = run_by 0 clear-takes
 
-    pub emptied-room : noRoom z img key value ≡ false
-    unfolding noRoom
+    pub emptied-room : no_room z img key value ≡ false
+    unfolding no_room
     emptied-room = room_by _ emptied-run
 
     -- an earlier tier takes it, or this one: never a later one
@@ -128,6 +128,6 @@ module _ (z : Shape) (img : List ℕ) (sound : SoundImage z img) (key value : Li
         let hs : segment_of z.settings key < z.settings.segments = segment-lt sound.fits.valid key in
         let there : chain z (remove_entry z img e) (segment_of z.settings key) ≡ xs ++ (e.tier ∷ ys) =
         removal_chain z img (sound-but z img sound) e m (segment_of z.settings key) hs ∙ is in
-        let found_in : firstRun z (full_in z (remove_entry z img e)) (clear z (remove_entry z img e)) (xs ++ (e.tier ∷ ys)) n ≡ At u c =
+        let found_in : first_run z (full_in z (remove_entry z img e)) (clear z (remove_entry z img e)) (xs ++ (e.tier ∷ ys)) n ≡ At u c =
         rw there at (sym run-without ∙ q) in
         (run-found z _ _ (xs ++ (e.tier ∷ [])) n u c (sym (first-within z _ _ n e.tier 0 clear-takes xs ys) ∙ found_in)).0

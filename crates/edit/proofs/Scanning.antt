@@ -26,7 +26,7 @@ use Rattle.sound.proofs.Sound.{sound-but}
 use Rattle.removal.proofs.Removing.{removal_chain, removal_mark_in, removal_mark-out, removal_mark-other, removal_full, removal_full-other}
 use Rattle.placement.specs.declared.Old.{Old}
 use Rattle.placement.specs.declared.Run.{Run}
-use Rattle.placement.specs.Runs.{firstRun, run_for, full_in, fullBut, clearBut}
+use Rattle.placement.specs.Runs.{first_run, run_for, full_in, full_but, clear_but}
 use Rattle.placement.proofs.OldEntry.{clear-old, clear_else, clear-before, clear-after, full-old, full_else}
 use Rattle.placement.proofs.Running.{run-same, run-others}
 use Rattle.edit.specs.Edits.{find, without_entry, without, run_of}
@@ -41,7 +41,7 @@ module _ (z : Shape) (img : List ℕ) (sound : SoundImage z img) where
   -- ---- a tier, once an entry is removed
 
   module _ (e : Live) (m : Memᴰ e (live z img)) (t : ℕ) (is : IsTier z t) where
-    full-after : fullBut z img (old_of (some e)) t ≡ full_in z (remove_entry z img e) t
+    full-after : full_but z img (old_of (some e)) t ≡ full_in z (remove_entry z img e) t
     unfolding old_of
     full-after =
         ⊎_elim
@@ -52,7 +52,7 @@ module _ (z : Shape) (img : List ℕ) (sound : SoundImage z img) where
     marked-same : (i : ℕ) → mark z (remove_entry z img e) t i ≡ mark z img t i → clear z img t i ≡ clear z (remove_entry z img e) t i
     marked-same i p = ap (λ (v : ℕ). eqb v 0) (sym p)
 
-    clear-own : t ≡ e.tier → (i : ℕ) → i < chunks → clearBut z img (old_of (some e)) t i ≡ clear z (remove_entry z img e) t i
+    clear-own : t ≡ e.tier → (i : ℕ) → i < chunks → clear_but z img (old_of (some e)) t i ≡ clear z (remove_entry z img e) t i
     unfolding old_of
     clear-own q i h =
         ⊎_elim
@@ -70,7 +70,7 @@ module _ (z : Shape) (img : List ℕ) (sound : SoundImage z img) where
         (lt-or i (e.chunk + e.chunks)))
         (lt-or i e.chunk)
 
-    clear-there : (i : ℕ) → i < chunks → clearBut z img (old_of (some e)) t i ≡ clear z (remove_entry z img e) t i
+    clear-there : (i : ℕ) → i < chunks → clear_but z img (old_of (some e)) t i ≡ clear z (remove_entry z img e) t i
     unfolding old_of
     clear-there i h =
         ⊎_elim
@@ -89,25 +89,25 @@ module _ (z : Shape) (img : List ℕ) (sound : SoundImage z img) where
     tiers-of = sound-tiers z img sound s (segment-lt sound.fits.valid key)
 
     scan-by : (o : Option Live) → find z img key ≡ o
-        → firstRun z (fullBut z img (old_of o)) (clearBut z img (old_of o)) (chain z img s) n
+        → first_run z (full_but z img (old_of o)) (clear_but z img (old_of o)) (chain z img s) n
         ≡ run_for z (without_entry z img o) (chain z (without_entry z img o) s) n
     unfolding old_of without_entry run_for
     scan-by none f = run-others z img (old_of none) (chain z img s) n (λ t mt (q : t ≡ 0). omega (arith, tiers-of t mt))
     scan-by (some e) f =
         let m : Memᴰ e (live z img) = (find-live z img key e f).0 in
-        run-same z (fullBut z img (old_of (some e))) (full_in z (remove_entry z img e)) (clearBut z img (old_of (some e)))
+        run-same z (full_but z img (old_of (some e))) (full_in z (remove_entry z img e)) (clear_but z img (old_of (some e)))
         (clear z (remove_entry z img e)) (chain z img s) n
         (λ t mt. full-after e m t (tiers-of t mt))
         (λ t mt i h. clear-there e m t (tiers-of t mt) i h)
-        ∙ ap (λ (ts : List ℕ). firstRun z (full_in z (remove_entry z img e)) (clear z (remove_entry z img e)) ts n)
+        ∙ ap (λ (ts : List ℕ). first_run z (full_in z (remove_entry z img e)) (clear z (remove_entry z img e)) ts n)
         (sym (removal_chain z img (sound-but z img sound) e m s (segment-lt sound.fits.valid key)))
 
   pub scan-is : (key value : List ℕ) {old : Old} {r : Run} {n : ℕ} → old ≡ old_of (find z img key)
       → n ≡ chunks_for settings (length key) (length value)
-      → r ≡ firstRun z (fullBut z img old) (clearBut z img old) (chain z img (segment_of settings key)) n
+      → r ≡ first_run z (full_but z img old) (clear_but z img old) (chain z img (segment_of settings key)) n
       → r ≡ run_of z (without z img key) key value
   unfolding run_of without
   scan-is key value {n = n} eo en e =
-      e ∙ ap (λ (x : Old). firstRun z (fullBut z img x) (clearBut z img x) (chain z img (segment_of settings key)) n) eo
+      e ∙ ap (λ (x : Old). first_run z (full_but z img x) (clear_but z img x) (chain z img (segment_of settings key)) n) eo
       ∙ scan-by key n (find z img key) refl
       ∙ ap (λ (x : ℕ). run_for z (without z img key) (chain z (without z img key) (segment_of settings key)) x) en

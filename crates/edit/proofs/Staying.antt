@@ -28,7 +28,7 @@ use Rattle.joining.specs.Joining.{join}
 use Rattle.joining.proofs.Ends.{not_new}
 use Rattle.unlinking.specs.Unlinking.{unlink_empty}
 use Rattle.unlinking.proofs.Emptied.{main-stays, full-stays}
-use Rattle.edit.specs.Edits.{find, without, run_of, noRoom, place_in, tier_of}
+use Rattle.edit.specs.Edits.{find, without, run_of, no_room, place_in, tier_of}
 use Rattle.edit.specs.Replaced.{Storable}
 use Rattle.edit.proofs.Without.{without-found, without-sound, without-left}
 use Rattle.edit.proofs.Storing.{placed-slots}
@@ -36,7 +36,7 @@ use Rattle.edit.proofs.Roomy.{emptied-run}
 
 module _ (z : Shape) (img : List ℕ) (key value : List ℕ) (w : Storable z img key value) (key_bytes : Bytes key) (value_bytes : Bytes value)
     (nowhere : run_of z (without z img key) key value ≡ Nowhere) (ne : free_head z (without z img key) ≢ 0)
-    (some-room : noRoom z img key value ≡ false) where
+    (some-room : no_room z img key value ≡ false) where
   abbrev img₁ : List ℕ
   img₁ = without z img key
 

@@ -33,7 +33,7 @@ use Rattle.joining.proofs.Ends.{new-tier, used-small}
 use Rattle.edit.specs.declared.Policy.TheVariants.{Tight}
 use Rattle.unlinking.specs.Unlinking.{unlink_empty}
 use Rattle.unlinking.specs.Asking.{CanUnlinkEmpty}
-use Rattle.edit.specs.Edits.{find, without, left, run_of, noRoom, place_in, tier_of, on_the_spot, entry_in, stored_entry, store_image}
+use Rattle.edit.specs.Edits.{find, without, left, run_of, no_room, place_in, tier_of, on_the_spot, entry_in, stored_entry, store_image}
 use Rattle.edit.specs.Replaced.{old_of, without_old, placed_old, replaced_old, extended_old, Stores, Storable, Walks, Replaces, Extends}
 use Rattle.edit.proofs.Without.{without-sound, without-room, without-head}
 use Rattle.edit.proofs.Replacing.{sound-framed, sound-tiers, sound-lows, found-old, old-fits, without_old-is, old-tier}
@@ -112,7 +112,7 @@ module _ {z : Shape} {img key value : List ℕ} {n : ℕ} {p : EntryPlace} (w : 
   -- ---- no tier takes it, and none is free
 
   pub no_room : (head : ℕ) → p.run ≡ Nowhere → head ≡ free_head z img → head ≡ 0 → Stores Tight z img key value false img
-  unfolding noRoom
+  unfolding no_room
   no_room head f eh e0 = (rw (← run_is, f) (eq-eqb (free_head z img₁) 0 (without-head z img sound key ∙ sym eh ∙ e0)), refl)
 
   -- ---- a tier of the chain takes it
@@ -134,8 +134,8 @@ module _ {z : Shape} {img key value : List ℕ} {n : ℕ} {p : EntryPlace} (w : 
         ap₂ (λ (x : List ℕ) (u : ℕ). settle z (place_at z x t c key value) (touched t u)) old-is (old-tier z img sound key old old-of)
         ∙ rw (← run_is, f)
 
-    some-room : noRoom z img key value ≡ false
-    unfolding noRoom
+    some-room : no_room z img key value ≡ false
+    unfolding no_room
     some-room = rw (← run_is, f)
 
     pub run-replaces : Replaces z img old t c p.slot key value
@@ -184,8 +184,8 @@ module _ {z : Shape} {img key value : List ℕ} {n : ℕ} {p : EntryPlace} (w : 
           });
         }
 
-    free-room : noRoom z img key value ≡ false
-    unfolding noRoom
+    free-room : no_room z img key value ≡ false
+    unfolding no_room
     free-room = rw (← run_is, f) (ne_eqb (free_head z img₁) 0 some-free)
 
     joined_at : extended_old z img old s head key value

@@ -12,14 +12,14 @@ use Rattle.entries.specs.Pairs.{Pair, pairs_of}
 use Rattle.sound.specs.Sound.{SoundImage}
 use Rattle.counters.specs.LowMarks.{LowMarks}
 use Rattle.edit.specs.declared.Policy.{Policy}
-use Rattle.edit.specs.Edits.{noRoom, spot_of, tiers_by, store_tiers, stored_entry, store_image}
+use Rattle.edit.specs.Edits.{no_room, spot_of, tiers_by, store_tiers, stored_entry, store_image}
 use Rattle.edit.specs.Replaced.{Storable}
 use Rattle.edit.proofs.Policies.{Spot, spot-only}
 use Rattle.edit.proofs.Storing.{placed-sound, placed-lows, placed-pairs}
 use Rattle.edit.proofs.OnTheSpot.{WritesOver, spot-sound, spot-lows, spot-pairs}
 
 module _ (policy : Policy) (z : Shape) (img key value : List ℕ) (w : Storable z img key value) (key_bytes : Bytes key) (value_bytes : Bytes value)
-    (some-room : noRoom z img key value ≡ false) where
+    (some-room : no_room z img key value ≡ false) where
   -- what is claimed of the image after a store that is on the spot of an entry, or is not
   record After (o : Option Live) : Type 0 where
     sound : SoundImage z (stored_entry z img key value o)

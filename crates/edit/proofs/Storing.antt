@@ -42,7 +42,7 @@ use Rattle.joining.specs.Joining.{join}
 use Rattle.joining.proofs.Joined.{join-sound, join-tiers, join-stays, join_in, join-pairs, join-empty, join-clear, join-absent}
 use Rattle.unlinking.specs.Asking.{CanUnlinkEmpty}
 use Rattle.unlinking.proofs.Leaving.{leaving-sound, leaving-pairs, leaving-tiers}
-use Rattle.edit.specs.Edits.{find, without, run_of, nowhere_to_go, noRoom, left, place_in, tier_for, taking_tier, tier_of, tiers_by, entry_in, stored_entry}
+use Rattle.edit.specs.Edits.{find, without, run_of, nowhere_to_go, no_room, left, place_in, tier_for, taking_tier, tier_of, tiers_by, entry_in, stored_entry}
 use Rattle.edit.specs.Replaced.{Storable}
 use Rattle.edit.proofs.Without.{left-tier, without-sound, without-left, without-lows, without-pairs, without-absent}
 use Rattle.edit.proofs.Replacing.{found-tier}
@@ -200,12 +200,12 @@ module _ (z : Shape) (img : List ℕ) (key value : List ℕ) (w : Storable z img
 
   -- ---- the whole
 
-  module _ (some-room : noRoom z img key value ≡ false) where
+  module _ (some-room : no_room z img key value ≡ false) where
     abbrev r : Run
     r = run_of z img₁ key value
 
     done : Placed (place_in z img₁ key value r) (tier_for z img₁ r)
-    unfolding noRoom
+    unfolding no_room
     done = placed r refl some-room
 
     changed : SoundBut z (place_in z img₁ key value r) (tiers_by z img key value none)

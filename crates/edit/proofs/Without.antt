@@ -36,7 +36,7 @@ use Rattle.removal.proofs.Removing.{removal_only, removal_sound, removal_tier, r
 use Rattle.unlinking.specs.Asking.{CanUnlinkEmpty}
 use Rattle.unlinking.proofs.Leaving.{leaving-sound, leaving-pairs, leaving-tiers}
 use Rattle.sound.proofs.AgreeTier.{SameTier, SameCounters}
-use Rattle.edit.specs.Edits.{find, without_entry, without, left, removed_entry, removeImage, remove_tiers, tier_of}
+use Rattle.edit.specs.Edits.{find, without_entry, without, left, removed_entry, remove_image, remove_tiers, tier_of}
 use Rattle.edit.proofs.Finding.{find-live, find_none}
 
 -- ---- a key's weight
@@ -190,22 +190,22 @@ module _ (z : Shape) (img : List ℕ) (sound : SoundImage z img) (key : List ℕ
             (without-left (tier_of (find z img key)) (left-tier (find z img key) ne));
       }
 
-  pub remove-sound : SoundImage z (removeImage z img key)
-  unfolding removeImage removed_entry without
+  pub remove-sound : SoundImage z (remove_image z img key)
+  unfolding remove_image removed_entry without
   remove-sound = leaving-sound z settled (tier_of (find z img key)) remove-leaves
 
-  pub remove-lows : LowMarks z img (removeImage z img key) (remove_tiers z img key)
-  unfolding removeImage removed_entry without
+  pub remove-lows : LowMarks z img (remove_image z img key) (remove_tiers z img key)
+  unfolding remove_image removed_entry without
   remove-lows =
       lows-then z (settle-lows z (remove_tiers z img key) (without z img key) without-sound without-left without-lows)
       (λ u m. chained-tier z without-sound (without-left u m))
       (λ u is.
-      let stays : SameTier z settled (removeImage z img key) u × SameCounters z settled (removeImage z img key) u =
+      let stays : SameTier z settled (remove_image z img key) u × SameCounters z settled (remove_image z img key) u =
       leaving-tiers z settled (tier_of (find z img key)) remove-leaves u is in
       low_same stays.0 stays.1)
 
-  pub remove-pairs : (F : Pair → ℕ) → total (pairs_of z (removeImage z img key)) F ≡ total (those (pairs_of z img) (λ p. not (same p.key key))) F
-  unfolding removeImage removed_entry without
+  pub remove-pairs : (F : Pair → ℕ) → total (pairs_of z (remove_image z img key)) F ≡ total (those (pairs_of z img) (λ p. not (same p.key key))) F
+  unfolding remove_image removed_entry without
   remove-pairs F =
       leaving-pairs z settled (tier_of (find z img key)) remove-leaves F
       ∙ settle-pairs z (remove_tiers z img key) (without z img key) without-sound without-left F

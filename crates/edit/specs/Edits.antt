@@ -52,8 +52,8 @@ tier_of (some e) = e.tier
 unfoldable pub removed_entry : Shape → List ℕ → Option Live → List ℕ
 removed_entry z img o = unlink_empty z (settle z (without_entry z img o) (left o)) (tier_of o)
 
-unfoldable pub removeImage : Shape → List ℕ → List ℕ → List ℕ
-removeImage z img key = removed_entry z img (find z img key)
+unfoldable pub remove_image : Shape → List ℕ → List ℕ → List ℕ
+remove_image z img key = removed_entry z img (find z img key)
 
 -- ---- store
 
@@ -66,8 +66,8 @@ abbrev pub nowhere_to_go : Shape → List ℕ → Run → Bool
 nowhere_to_go z img (At t c) = false
 nowhere_to_go z img Nowhere = eqb (free_head z img) 0
 
-unfoldable pub noRoom : Shape → List ℕ → List ℕ → List ℕ → Bool
-noRoom z img key value = nowhere_to_go z (without z img key) (run_of z (without z img key) key value)
+unfoldable pub no_room : Shape → List ℕ → List ℕ → List ℕ → Bool
+no_room z img key value = nowhere_to_go z (without z img key) (run_of z (without z img key) key value)
 
 -- in the run; else the first free tier joins the chain and takes the entry from its first chunk on
 unfoldable pub place_in : Shape → List ℕ → List ℕ → List ℕ → Run → List ℕ

@@ -24,7 +24,7 @@ use Rattle.unlinking.specs.Unlinking.{unlink_empty}
 use Rattle.unlinking.specs.Asking.{CanUnlinkEmpty}
 use Rattle.edit.specs.declared.Policy.{Policy}
 use Rattle.edit.specs.declared.Policy.TheVariants.{OnTheSpot, Tight}
-use Rattle.edit.specs.Edits.{noRoom, store_image}
+use Rattle.edit.specs.Edits.{no_room, store_image}
 
 unfoldable pub old_of : Option Live → Old
 old_of none = no_old
@@ -56,14 +56,14 @@ pub record OldFits (z : Shape) (old : Old) : Type 0 where
   pub slot_in : old.slot < z.settings.slots
   pub range_ends : old.chunk + old.chunks ≤ z.settings.chunks
 
-abbrev pub isThere : Option Live → Bool
-isThere none = false
-isThere (some e) = true
+abbrev pub is_there : Option Live → Bool
+is_there none = false
+is_there (some e) = true
 
 -- a store was done, or there was no room and the image is as before
 abbrev pub Stores : Policy → Shape → List ℕ → List ℕ → List ℕ → Bool → List ℕ → Type 0
-Stores policy z img key value true img' = (noRoom z img key value ≡ false) × (img' ≡ store_image policy z img key value)
-Stores policy z img key value false img' = (noRoom z img key value ≡ true) × (img' ≡ img)
+Stores policy z img key value true img' = (no_room z img key value ≡ false) × (img' ≡ store_image policy z img key value)
+Stores policy z img key value false img' = (no_room z img key value ≡ true) × (img' ≡ img)
 
 -- what a store asks for
 pub record Storable (z : Shape) (img key value : List ℕ) : Type 0 where

@@ -1,10 +1,12 @@
 // Removal and store of a key in an image that was accepted.
+#![tactic(auto)]
+
 ghost use Rattle.std.specs.Prelude.{◌≡◌, length};
 ghost use Rattle.layout.specs.Frame.{Framed};
 ghost use Rattle.sound.specs.Sound.{SoundImage};
 ghost use Rattle.edit.specs.declared.Policy.TheVariants.{Tight};
-ghost use Rattle.edit.specs.Edits.{find, removeImage};
-ghost use Rattle.edit.specs.Replaced.{old_of, without_old, replaced_old, extended_old, old_on_the_spot, OldFits, isThere, Stores, Storable, Walks, Replaces, Extends};
+ghost use Rattle.edit.specs.Edits.{find, remove_image};
+ghost use Rattle.edit.specs.Replaced.{old_of, without_old, replaced_old, extended_old, old_on_the_spot, OldFits, is_there, Stores, Storable, Walks, Replaces, Extends};
 
 use layout::Shape;
 use placement::walk::Walk;
@@ -12,7 +14,7 @@ use placement::{NewSlot, Old, Run};
 use search::Found;
 
 // How a store replaces an entry: where it stands, if the new one takes as many chunks; or always as if it were removed first.
-#[derive(Drop)]
+#[derive(Clone, Copy)]
 pub enum Policy {
     OnTheSpot,
     Tight,
@@ -43,8 +45,8 @@ fn remove_old(z: Shape, img: &mut [u8], old: Old)
 // Removes the entry with the whole key; whether there was one.
 pub fn remove(z: Shape, img: &mut [u8], key: &[u8]) -> bool
     requires { SoundImage z img.old }
-    ensures { (result ≡ isThere (find z img.old key.now)) ×
-        (img.new ≡ removeImage z img.old key.now) }
+    ensures { (result ≡ is_there (find z img.old key.now)) ×
+        (img.new ≡ remove_image z img.old key.now) }
 {
     let old = old_entry(z, img, key);
     if old.tier == 0 {

@@ -9,14 +9,14 @@ use lib.Arith.{digits_lt}
 use Rattle.words.proofs.Bits.{pow-256}
 use Rattle.settings.specs.declared.Settings.{Settings}
 use Rattle.settings.specs.Rules.{Valid}
-use Rattle.entries.specs.Keys.{slotKey, slot_chunk, slot_rest, slot_with}
+use Rattle.entries.specs.Keys.{slot_key, slot_chunk, slot_rest, slot_with}
 
 -- ---- the parts of a slot that is put together
 
 module _ (st : Settings) (l c : ℕ) (hl : l < 2 ^ st.keyBits) where
   open st use {keyBits, chunkBits, slotSize}
 
-  pub slot_key-with : slotKey st (slot_with st l c) ≡ l
+  pub slot_key-with : slot_key st (slot_with st l c) ≡ l
   slot_key-with = rw (add_comm l (c * 2 ^ keyBits)) (low c keyBits hl)
 
   rest-of-key : slot_with st l c / 2 ^ keyBits ≡ c

@@ -41,8 +41,8 @@ module _ (st : Settings) where
   start lookup = lookup % slots
 
   -- a full slot: its lookup key, its first chunk, and the bits above; and the slot that has them
-  abbrev pub slotKey : ℕ → ℕ
-  slotKey v = v % 2 ^ keyBits
+  abbrev pub slot_key : ℕ → ℕ
+  slot_key v = v % 2 ^ keyBits
 
   abbrev pub slot_chunk : ℕ → ℕ
   slot_chunk v = v / 2 ^ keyBits % 2 ^ chunkBits

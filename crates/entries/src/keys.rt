@@ -1,7 +1,7 @@
 // What a slot holds, and what of it a key's hash gives. Segments and slots are powers of two: no division.
 ghost use Rattle.std.specs.Prelude.{◌≡◌, ◌-◌, ◌%◌, ◌^◌, ◌<◌};
 ghost use Rattle.settings.specs.Rules.{PowerOfTwo, Valid};
-ghost use Rattle.entries.specs.Keys.{segment_of_hash as keys_segment_of_hash, lookup_of_hash as keys_lookup_of_hash, start as keys_start, slotKey, slot_chunk as keys_slot_chunk, slot_rest as keys_slot_rest, slot_with as keys_slot_with};
+ghost use Rattle.entries.specs.Keys.{segment_of_hash as keys_segment_of_hash, lookup_of_hash as keys_lookup_of_hash, start as keys_start, slot_key as keys_slot_key, slot_chunk as keys_slot_chunk, slot_rest as keys_slot_rest, slot_with as keys_slot_with};
 ghost use Rattle.entries.specs.Asking.{SlotParts};
 
 use settings::Settings;
@@ -41,7 +41,7 @@ pub fn remainder(x: u64, n: usize) -> usize
 // The lookup key of a slot.
 pub fn slot_key(st: Settings, v: u64) -> u64
     requires { Valid st }
-    ensures { result ≡ slotKey st v }
+    ensures { result ≡ keys_slot_key st v }
 {
     low_bits(v, st.keyBits)
 }

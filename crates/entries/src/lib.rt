@@ -1,4 +1,6 @@
 // Keys, slots and stored entries.
+#![tactic(auto)]
+
 use settings::Settings;
 
 pub mod keys;
@@ -18,14 +20,14 @@ pub const LONGEST_KEY: usize = 1024;
 pub const LONGEST_VALUE: usize = 65535;
 
 // A part of an image: where it begins, and how many bytes it has.
-#[derive(Drop)]
+#[derive(Clone, Copy)]
 pub struct Part {
     pub at: usize,
     pub length: usize,
 }
 
 // Where a stored entry's key and value stand in the image, and how long they are.
-#[derive(Drop)]
+#[derive(Clone, Copy)]
 pub struct Entry {
     pub keyAt: usize,
     pub keyLength: usize,
@@ -34,21 +36,21 @@ pub struct Entry {
 }
 
 // What stands at a chunk: an entry whose lengths could be read, or not.
-#[derive(Drop)]
+#[derive(Clone, Copy)]
 pub enum Stored {
     Whole(Entry),
     Broken,
 }
 
 // A value that fits, with the chunks that its entry covers, or one that does not.
-#[derive(Drop)]
+#[derive(Clone, Copy)]
 pub enum ValueSize {
     Fits(usize),
     Broken,
 }
 
 // A live entry: its segment, tier, slot, first chunk, the chunks that it covers, and the stored entry.
-#[derive(Drop)]
+#[derive(Clone, Copy)]
 pub struct Live {
     pub segment: usize,
     pub tier: usize,

@@ -15,7 +15,7 @@ use Rattle.layout.specs.Places.{slot, counter, free, byte, Place, global, header
 use Rattle.layout.specs.Frame.{Bounded, Framed, most_tiers}
 use Rattle.layout.proofs.Bounds.{framed-bounded}
 use Rattle.chains.proofs.AgreeChains.{tier-more}
-use Rattle.growing.specs.Growing.{grown, noBulk, new_tier}
+use Rattle.growing.specs.Growing.{grown, no_bulk, new_tier}
 
 module _ (z : Shape) where
   open z use {settings}
@@ -72,8 +72,8 @@ module _ (z : Shape) where
 
   -- ---- where there is room for the bulk
 
-  pub room-framed : {len : ℕ} → Framed z len → noBulk z len ≡ false → Framed (grown z) len
-  unfolding noBulk
+  pub room-framed : {len : ℕ} → Framed z len → no_bulk z len ≡ false → Framed (grown z) len
+  unfolding no_bulk
   room-framed {len} fr e =
       let both : (ltb most_tiers (tiers (grown z)) ≡ false) × (ltb len (store_end (grown z)) ≡ false) = neither _ _ e in
       record {
@@ -96,12 +96,12 @@ module _ (z : Shape) where
 
   -- the two tests, as the code makes them with the tiers and the end of a shape `more`
   module _ (len : ℕ) {more : Shape} (is : more ≡ grown z) {n : ℕ} (count : n ≡ tiers more) where
-    pub too_many : most_tiers < n → true ≡ noBulk z len
-    unfolding noBulk
+    pub too_many : most_tiers < n → true ≡ no_bulk z len
+    unfolding no_bulk
     too_many h = let e : tiers (grown z) ≡ n = ap tiers (sym is) ∙ sym count in rw (e, lt-ltb most_tiers n h)
 
-    pub by_length : n ≤ most_tiers → {end : ℕ} → end ≡ store_end more → ltb len end ≡ noBulk z len
-    unfolding noBulk
+    pub by_length : n ≤ most_tiers → {end : ℕ} → end ≡ store_end more → ltb len end ≡ no_bulk z len
+    unfolding no_bulk
     by_length h {end} f =
         let e : tiers (grown z) ≡ n = ap tiers (sym is) ∙ sym count in
         let d : store_end (grown z) ≡ end = ap store_end (sym is) ∙ sym f in

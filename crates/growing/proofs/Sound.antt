@@ -26,13 +26,13 @@ use Rattle.search.specs.Rules.{TierSlotsFit, KeysOnce, EntriesFit}
 use Rattle.chunks.specs.Chunks.{FreeTierFits, ChunksFit}
 use Rattle.sound.specs.Sound.{SoundImage}
 use Rattle.sound.proofs.Sound.{sound-image}
-use Rattle.growing.specs.Growing.{grown, noBulk, new_tier, grow_image, IsNew}
+use Rattle.growing.specs.Growing.{grown, no_bulk, new_tier, grow_image, IsNew}
 use Rattle.growing.proofs.Reshaped.{tiers-grown, room-framed}
 use Rattle.growing.proofs.NewTiers.{Grows, grow-grows}
 use Rattle.growing.proofs.Chains.{grown-chain, grown-free, grown-chains}
 use Rattle.growing.proofs.Tiers.{grown-slots, grown-marks, grown-counters, grown-nothing, grown_live_in, grown-empty, grown-full, grown-key, grown-pair}
 
-module _ (z : Shape) (img : List ℕ) (sound : SoundImage z img) (room : noBulk z (length img) ≡ false) where
+module _ (z : Shape) (img : List ℕ) (sound : SoundImage z img) (room : no_bulk z (length img) ≡ false) where
   open z use {settings}
   open settings use {segments, bulkTiers}
 

@@ -11,8 +11,8 @@ abbrev pub grown : Shape → Shape
 grown z = record { settings = z.settings; headers = z.headers; bulks = z.bulks + 1 }
 
 -- 13: the tiers would pass 1,024, or an image of this length is too short for the bulk
-unfoldable pub noBulk : Shape → ℕ → Bool
-noBulk z len = ltb most_tiers (tiers (grown z)) || ltb len (store_end (grown z))
+unfoldable pub no_bulk : Shape → ℕ → Bool
+no_bulk z len = ltb most_tiers (tiers (grown z)) || ltb len (store_end (grown z))
 
 -- ---- a tier that holds nothing
 

@@ -1,9 +1,11 @@
 // One bulk more after the last: its tiers are emptied and stand in front of the free tiers.
+#![tactic(auto)]
+
 ghost use Rattle.std.specs.Prelude.{◌≡◌, ◌≤◌, length};
 ghost use Rattle.settings.specs.Rules.{largest};
 ghost use Rattle.layout.specs.Frame.{Framed, most_tiers};
 ghost use Rattle.layout.specs.FramedTier.{FramedTier};
-ghost use Rattle.growing.specs.Growing.{grown as growing_grown, noBulk, empty_slots as growing_empty_slots, empty_tier as growing_empty_tier, after_new as growing_after_new, new_tiers as growing_new_tiers, grow_image};
+ghost use Rattle.growing.specs.Growing.{grown as growing_grown, no_bulk as growing_no_bulk, empty_slots as growing_empty_slots, empty_tier as growing_empty_tier, after_new as growing_after_new, new_tiers as growing_new_tiers, grow_image};
 ghost use Rattle.growing.specs.Asking.{FramedExtra};
 
 use layout::Shape;
@@ -24,7 +26,7 @@ fn grown(z: Shape) -> Shape
 // Whether there is no room for a bulk: the tiers would pass 1,024, or the image is too short.
 pub fn no_bulk(z: Shape, img: &[u8]) -> bool
     requires { Framed z (length img.now) }
-    ensures { result ≡ noBulk z (length img.now) }
+    ensures { result ≡ growing_no_bulk z (length img.now) }
 {
     let more = grown(z);
     if layout::MOST_TIERS < layout::tier_count(more) {

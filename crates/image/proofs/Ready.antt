@@ -24,7 +24,7 @@ use Rattle.sound.specs.Sound.{ImageFits}
 use Rattle.image.specs.declared.Stage.{Stage}
 use Rattle.image.specs.declared.Counts.{Counts}
 use Rattle.image.specs.declared.Examined.TheVariants.{Ready, Refused}
-use Rattle.image.specs.Check.{counts_of, after_chunks, after_entries, after_chains, afterFrame, after_block, examine}
+use Rattle.image.specs.Check.{counts_of, after_chunks, after_entries, after_chains, after_frame, after_block, examine}
 
 refused-ready : {A : Type 0} {k : Stage} {z : Shape} {c : Counts} → Refused k ≡ Ready z c → A
 refused-ready {A} {k} {z} {c} e = absurd (let q : ◌≡◌ {A = ℕ} 0 1 = cc in omega arith)
@@ -40,7 +40,7 @@ module _ (block img : List ℕ) where
   -- it is accepted, with its shape and its counts
 
   pub fitting-ready : (z : Shape) → Fitting z → examine block img ≡ Ready z (counts_of z img)
-  unfolding examine after_block afterFrame after_chains after_entries after_chunks shape_of
+  unfolding examine after_block after_frame after_chains after_entries after_chunks shape_of
   fitting-ready z f =
       ap (after_block img) (parse-accepts block f.block_fits (subst (λ (x : Shape). Valid x.settings) f.shape f.image.valid))
       ∙ rw (← f.shape)
@@ -69,8 +69,8 @@ module _ (block img : List ℕ) where
     from-chains f (no _) e = refused-ready e
     from-chains f (yes a) e = from_entries f a (entries_fit? x img) e
 
-    from-frame : (d : Dec (FrameFits x img)) → afterFrame x img d ≡ Ready z c → (z ≡ x) × ImageFits x img
-    unfolding afterFrame choose
+    from-frame : (d : Dec (FrameFits x img)) → after_frame x img d ≡ Ready z c → (z ≡ x) × ImageFits x img
+    unfolding after_frame choose
     from-frame (no _) e = refused-ready e
     from-frame (yes f) e = from-chains f (chains_fit? x img) e
 

@@ -28,17 +28,17 @@ use Rattle.contents.specs.Contents.{contents_of}
 use Rattle.image.specs.declared.Stage.TheVariants as stage
 use Rattle.image.specs.declared.Examined.{Examined}
 use Rattle.image.specs.declared.Examined.TheVariants.{Ready, Refused}
-use Rattle.image.specs.Check.{counts_of, after_chunks, after_entries, after_chains, afterFrame}
+use Rattle.image.specs.Check.{counts_of, after_chunks, after_entries, after_chains, after_frame}
 
 -- ---- as the code has it: what each call answered
 
 module _ (st : Settings) (img : List ℕ) where
   -- what the stages after the settings give
   abbrev pub target : Examined
-  target = afterFrame (shape_of st img) img (frame_fits? (shape_of st img) img)
+  target = after_frame (shape_of st img) img (frame_fits? (shape_of st img) img)
 
   pub frame_refused : frame_of st img ≡ frame.Broken → Refused stage.Frame ≡ target
-  unfolding afterFrame
+  unfolding after_frame
   frame_refused e =
       sym
       (choose_no (frame_fits? (shape_of st img) img) _ _
@@ -52,7 +52,7 @@ module _ (st : Settings) (img : List ℕ) where
     framed-here = frame-framed st img z v e
 
     at-chains : after_chains z img (chains_fit? z img) ≡ target
-    unfolding afterFrame
+    unfolding after_frame
     at-chains = let is : z ≡ shape_of st img = fitting.is in rw (← is) (sym (choose_yes (frame_fits? z img) _ _ fitting.fits))
 
     pub chains-refused : chains_of z img ≡ chains.Broken → Refused stage.Chains ≡ target

@@ -46,13 +46,13 @@ after_entries z img d = choose d (λ _. Refused Entries) (λ _. after_chunks z i
 unfoldable pub after_chains : (z : Shape) (img : List ℕ) → Dec (ChainsFit z img) → Examined
 after_chains z img d = choose d (λ _. Refused Chains) (λ _. after_entries z img (entries_fit? z img))
 
-unfoldable pub afterFrame : (z : Shape) (img : List ℕ) → Dec (FrameFits z img) → Examined
-afterFrame z img d = choose d (λ _. Refused Frame) (λ _. after_chains z img (chains_fit? z img))
+unfoldable pub after_frame : (z : Shape) (img : List ℕ) → Dec (FrameFits z img) → Examined
+after_frame z img d = choose d (λ _. Refused Frame) (λ _. after_chains z img (chains_fit? z img))
 
 unfoldable pub after_block : List ℕ → Parsed → Examined
 after_block img BadBlock = Refused Block
 after_block img BadField = Refused Field
-after_block img (parsed st) = afterFrame (shape_of st img) img (frame_fits? (shape_of st img) img)
+after_block img (parsed st) = after_frame (shape_of st img) img (frame_fits? (shape_of st img) img)
 
 unfoldable pub examine : List ℕ → List ℕ → Examined
 examine block img = after_block img (parse block)

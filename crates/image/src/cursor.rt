@@ -12,7 +12,7 @@ use layout::Shape;
 
 // A place among the live entries: a slot of a tier in a segment's chain. Of the chain at most `left` tiers are still met, this
 // one with them, so that a walk ends. The next `skip` entries are passed over: of those only the slots are read.
-#[derive(Drop)]
+#[derive(Clone, Copy)]
 pub struct LiveCursor {
     pub segment: usize,
     pub tier: usize,
@@ -22,7 +22,7 @@ pub struct LiveCursor {
 }
 
 // The next live entry and a cursor after it, or that none is left.
-#[derive(Drop)]
+#[derive(Clone, Copy)]
 pub enum Step {
     At(Live, LiveCursor),
     End,

@@ -1,4 +1,6 @@
 // The check of a whole image, and the list of its live entries.
+#![tactic(auto)]
+
 pub mod cursor;
 pub mod list;
 pub mod numbers;
@@ -6,7 +8,7 @@ pub mod numbers;
 ghost use Rattle.std.specs.Prelude.{◌≡◌};
 ghost use Rattle.settings.specs.Rules.{Valid};
 ghost use Rattle.layout.specs.Frame.{shape_of, frame_fits?};
-ghost use Rattle.image.specs.Check.{afterFrame, examine as check_examine, check as check_check};
+ghost use Rattle.image.specs.Check.{after_frame, examine as check_examine, check as check_check};
 
 use chains::Chains;
 use contents::Contents;
@@ -16,7 +18,7 @@ use settings::{Parsed, Settings};
 
 // What may be refused, in the order in which it is asked. The walk is that of a quick lookup, which asks for it in place of chains,
 // entries and chunks, and after the key.
-#[derive(Drop)]
+#[derive(Clone, Copy)]
 pub enum Stage {
     Block,
     Field,
@@ -30,7 +32,7 @@ pub enum Stage {
 }
 
 // What the check counts over an accepted image: live entries, marked chunks, chained tiers and free tiers.
-#[derive(Drop)]
+#[derive(Clone, Copy)]
 pub struct Counts {
     pub entries: usize,
     pub chunks: usize,
@@ -38,34 +40,34 @@ pub struct Counts {
     pub free: usize,
 }
 
-#[derive(Drop)]
+#[derive(Clone, Copy)]
 pub enum Outcome {
     Accepted(Counts),
     Refused(Stage),
 }
 
 // The check's answer.
-#[derive(Drop)]
+#[derive(Clone, Copy)]
 pub struct Verdict {
     pub outcome: Outcome,
 }
 
 // The same, with the shape of an accepted image for the calls that go on to work with it.
-#[derive(Drop)]
+#[derive(Clone, Copy)]
 pub enum Examined {
     Ready(Shape, Counts),
     Refused(Stage),
 }
 
 // The n-th of some entries, or how many more it takes after them.
-#[derive(Drop)]
+#[derive(Clone, Copy)]
 pub enum Nth {
     At(Live),
     After(usize),
 }
 
 // The list's answer: an entry, none, or a refusal.
-#[derive(Drop)]
+#[derive(Clone, Copy)]
 pub enum Listed {
     Row(Live),
     Past,
@@ -75,7 +77,7 @@ pub enum Listed {
 // The stages after the settings, each over the whole image before the next.
 fn examine_image(st: Settings, img: &[u8]) -> Examined
     requires { Valid st }
-    ensures { result ≡ afterFrame (shape_of st img.now) img.now
+    ensures { result ≡ after_frame (shape_of st img.now) img.now
         (frame_fits? (shape_of st img.now) img.now) }
 {
     let Frame::Fits(z) = layout::frame_of(st, img) else {

@@ -1,4 +1,6 @@
 // A free tier joins a chain.
+#![tactic(auto)]
+
 ghost use Rattle.std.specs.Prelude.{◌≡◌};
 ghost use Rattle.joining.specs.Joining.{join as joining_join};
 ghost use Rattle.joining.specs.Asking.{EndsAt, CanFollow, CanJoin};
@@ -6,7 +8,7 @@ ghost use Rattle.joining.specs.Asking.{EndsAt, CanFollow, CanJoin};
 use layout::Shape;
 
 // The last tier of a chain, and how many tiers it has.
-#[derive(Drop)]
+#[derive(Clone, Copy)]
 pub struct End {
     pub last: usize,
     pub length: usize,

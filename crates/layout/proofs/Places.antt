@@ -115,7 +115,7 @@ length-puts z img ((p ≔ v) ∷ ws) = length-puts z (put z img p v) ws ∙ leng
 pub image-puts : {z : Shape} {img : List ℕ} → Image z img → (ws : List Write) → Image z (puts z img ws)
 unfolding puts
 image-puts i [] = i
-image-puts i ((p ≔ v) ∷ ws) = image-puts (image-put i p v) ws
+image-puts {z = z} {img = img} i ((p ≔ v) ∷ ws) = image-puts {img = put z img p v} (image-put i p v) ws
 
 pub get-puts-other : {z : Shape} {len : ℕ} → Framed z len → (img : List ℕ) (ws : List Write) (q : Place)
     → In z q → Spares z q ws → get z (puts z img ws) q ≡ get z img q

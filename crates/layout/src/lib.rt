@@ -1,4 +1,6 @@
 // Where everything stands in an image: the frame, the tiers, the named places.
+#![tactic(auto)]
+
 use settings::Settings;
 
 pub mod read;
@@ -12,7 +14,7 @@ ghost use Rattle.layout.specs.Places.{counters_at as places_counters_at, shared_
 ghost use Rattle.layout.specs.Frame.{shape_of, Bounded, FrameFits, frame_of, Framed, HasChunks, HasShared, global_size};
 
 // The settings, with the two numbers of the global state that say where things stand: the headers offset and the bulk count.
-#[derive(Drop)]
+#[derive(Clone, Copy)]
 pub struct Shape {
     pub settings: Settings,
     pub headers: usize,
@@ -20,7 +22,7 @@ pub struct Shape {
 }
 
 // What the frame of an image gives: its shape, or a refusal.
-#[derive(Drop)]
+#[derive(Clone, Copy)]
 pub enum Frame {
     Fits(Shape),
     Broken,
@@ -52,7 +54,7 @@ const NEXT_TIER: usize = 16;
 
 // The counters that every tier has in its own place. Next, low and count are not among them: a main tier has
 // those in its segment header, and in its counters they are neither read nor written. See shared_at.
-#[derive(Drop)]
+#[derive(Clone, Copy)]
 pub struct Counters {
     pub previous: u64,
     pub segment: u64,

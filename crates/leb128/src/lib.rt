@@ -1,10 +1,12 @@
 // Unsigned LEB128 in the shortest form, for lengths of at most 65,535.
+#![tactic(auto)]
+
 ghost use Rattle.std.specs.Prelude.{◌≡◌, ◌+◌, ◌≤◌, ◌<◌, length};
 ghost use Rattle.std.proofs.lemmas.List.Edits.{sets};
 ghost use Rattle.leb128.specs.Leb128.{encode, decode};
 
 // What stands at a place: a length with the place after it, or nothing that is accepted.
-#[derive(Drop)]
+#[derive(Clone, Copy)]
 pub enum Decoded {
     Number(usize, usize),
     Refused,

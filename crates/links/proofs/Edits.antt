@@ -34,14 +34,14 @@ module _ {next next' : ℕ → ℕ} where
   relink : {h p : ℕ} (xs : List ℕ) {ys zs : List ℕ} → Linked next h (xs ++ ys) → Memᴰ p xs → Linked next (next p) ys
       → Every xs (λ u. u ≢ p → next' u ≡ next u) → Linked next' (next' p) zs → Linked next' h (xs ++ zs)
   relink [] r m s f z = absurd (mathlib.Core.List.Memᴰ.not-nil m)
-  relink {p = p} (x ∷ xs) {ys} (step e n r) m s f z =
+  relink {h = h} {p = p} (x ∷ xs) {ys} (step e n r) m s f z =
       ⊎_elim
       (λ (c : x ≡ p).
       let last : xs ≡ [] = append_cancel_right xs [] ys (linked-unique (ap next c) r s) in
       step e n (rw last (run-from (ap next' c) z)))
       (λ (c : x ≢ p).
       let k : Memᴰ p xs = ⊎_elim (λ q. absurd (c (sym q))) (λ w. w) (mathlib.Core.List.Memᴰ.cases_cons m) in
-      step e n (run-from (f x (mathlib.Core.List.Memᴰ.head refl) c) (relink xs r k s (λ u w. f u (mathlib.Core.List.Memᴰ.tail w)) z)))
+      step e n (run-from (f x (mathlib.Core.List.Memᴰ.head refl) c) (relink {h = next x} xs r k s (λ u w. f u (mathlib.Core.List.Memᴰ.tail w)) z)))
       (same_or x p)
 
   -- ---- a list after p, which was the last

@@ -27,10 +27,10 @@ module _ {next : ℕ → ℕ} where
   -- those in front differ from those behind
   pub linked-apart : {t x y : ℕ} (xs ys : List ℕ) → Linked next t (xs ++ ys) → Memᴰ x xs → Memᴰ y ys → x ≢ y
   linked-apart [] ys r m k = absurd (Memᴰ.not-nil m)
-  linked-apart {x = x} {y = y} (z ∷ xs) ys (step e n r) m k =
+  linked-apart {t = t} {x = x} {y = y} (z ∷ xs) ys (step e n r) m k =
       ⊎_elim
       (λ (q : x ≡ z). λ (d : x ≡ y). first-apart (step e n r) y (Memᴰ.append_right xs k) (sym d ∙ q))
-      (λ w. linked-apart xs ys r w k)
+      (λ w. linked-apart {t = next z} xs ys r w k)
       (Memᴰ.cases_cons m)
 
   pub linked-once : {t : ℕ} {l : List ℕ} → Linked next t l → Every l (λ x. how_many l (eqb x) ≡ 1)

@@ -17,7 +17,7 @@ module _ {next : ℕ → ℕ} where
   -- what is met from a member on
   pub run-after : {t v u : ℕ} (xs : List ℕ) {ys : List ℕ} → Run next t (xs ++ (v ∷ ys)) u → Run next v (v ∷ ys) u
   run-after [] (step e n r) = step refl n r
-  run-after (x ∷ xs) (step e n r) = run-after xs r
+  run-after {t = t} (x ∷ xs) (step e n r) = run-after {t = next x} xs r
 
   pub run-positive : {t u : ℕ} {l : List ℕ} → Run next t l u → Every l (λ x. x ≢ 0)
   run-positive (stop e) y m = absurd (Memᴰ.not-nil m)

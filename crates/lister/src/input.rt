@@ -16,7 +16,7 @@ const LIMIT: usize = 65536;
 pub const LONGEST: usize = settings::HEAD_SIZE + 4 * settings::MOST_FIELDS + LENGTH_SIZE + LIMIT;
 
 // Read on up to so many bytes in all; a block that ends there is there, and an image of so many bytes; or a refusal.
-#[derive(Drop)]
+#[derive(Clone, Copy)]
 pub enum Input {
     More(usize),
     Whole(usize, usize),

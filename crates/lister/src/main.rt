@@ -1,5 +1,7 @@
 // Lists the live entries of an image. Standard input has the settings block, the image's length and
 // the image; what comes later is not read. Nothing is printed before the check of all three is done.
+#![tactic(auto)]
+
 mod input;
 mod print;
 mod rows;

@@ -28,7 +28,7 @@ module _ {P : Type 0} (m n : ℕ) where
 module _ {A B : Type 0} (d : Dec A) (f g : Unit {0} → B) where
   pub choose-by : (P : B → Type 0) → ((A → ⊥) → P (f tt)) → (A → P (g tt)) → P (choose d f g)
   unfolding choose
-  choose-by P n y = elim d [ no h ↦ n h | yes a ↦ y a ]
+  choose-by P n y = elim d as (λ k. P (choose k f g)) [ no h ↦ n h | yes a ↦ y a ]
 
   pub choose_no : (A → ⊥) → choose d f g ≡ f tt
   choose_no n = choose-by (λ x. x ≡ f tt) (λ _. refl) (λ a. absurd (n a))

@@ -16,7 +16,7 @@ use Rattle.entries.specs.declared.Entry.{Entry}
 use Rattle.entries.specs.declared.Part.{Part}
 use Rattle.entries.specs.declared.Stored.{Stored}
 use Rattle.entries.specs.declared.Stored.TheVariants.{Whole, Broken}
-use Rattle.entries.specs.Keys.{slotKey, slot_chunk}
+use Rattle.entries.specs.Keys.{slot_key, slot_chunk}
 use Rattle.entries.specs.Stored.{stored, entry_of, key_of}
 use Rattle.entries.specs.Telling.{KeyPart}
 use Rattle.entries.specs.Live.{slot_at, chunk_of, entry_at}
@@ -63,10 +63,10 @@ is_whole Broken w = absurd w
 -- ---- the number of a stored key
 
 module _ {z : Shape} {img : List ℕ} {s t j v : ℕ} (k : HoldsKey z img s t j v) where
-  pub number-lookup : (by : Sharing) → by.byHash ≡ false → slotKey z.settings v ≡ number_of by z.settings (keyAt z img t j)
+  pub number-lookup : (by : Sharing) → by.byHash ≡ false → slot_key z.settings v ≡ number_of by z.settings (keyAt z img t j)
   unfolding number_of
   number-lookup by e =
-      rw (e, number_of) (ap (slotKey z.settings) k.holds ∙ sym k.slot.fits.hashed.lookup_agrees)
+      rw (e, number_of) (ap (slot_key z.settings) k.holds ∙ sym k.slot.fits.hashed.lookup_agrees)
 
   module _ {c : ℕ} (ec : c ≡ slot_chunk z.settings v) where
     chunk-is : c ≡ chunk_of z img t j
@@ -102,7 +102,7 @@ module _ {z : Shape} {img : List ℕ} {s t j v : ℕ} (k : HoldsKey z img s t j 
 -- the pass of a full slot, by its lookup key
 module _ {z : Shape} {img : List ℕ} {by : Sharing} {s t j : ℕ} (r : ReadSlot z img by s t j) (e : by.byHash ≡ false) where
   pub lookup-pass : {v : ℕ} → v ≡ slot_at z img t j → slot_at z img t j ≢ 0
-      → slotKey z.settings v % 2 ^ by.passBits ≡ pass_for by.passBits (number_of by z.settings (keyAt z img t j))
+      → slot_key z.settings v % 2 ^ by.passBits ≡ pass_for by.passBits (number_of by z.settings (keyAt z img t j))
   unfolding pass_for
   lookup-pass ev full =
       let k : HoldsKey z img s t j _ = record { slot = fitting-slot r.tier.pass.reads r.tier.tier_in r.slot_in full; holds = ev } in

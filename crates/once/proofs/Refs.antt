@@ -12,7 +12,7 @@ use Rattle.lists.specs.Decide.{Decides}
 use Rattle.lists.proofs.Decides.{decides}
 use Rattle.layout.specs.declared.Shape.{Shape}
 use Rattle.probe.proofs.Table.{Lawful}
-use Rattle.entries.specs.Keys.{lookup_key, slotKey}
+use Rattle.entries.specs.Keys.{lookup_key, slot_key}
 use Rattle.entries.specs.Live.{slot_at}
 use Rattle.search.specs.Search.{hits}
 use Rattle.search.specs.Rules.{keyAt}
@@ -39,7 +39,7 @@ module _ (z : Shape) (img : List ℕ) where
 
   -- the slot holds the lookup key of its key
   abbrev pub Looks : Place → Type 0
-  Looks a = lookup_key settings (keyAt z img a.0 a.1) ≡ slotKey settings (slot_at z img a.0 a.1)
+  Looks a = lookup_key settings (keyAt z img a.0 a.1) ≡ slot_key settings (slot_at z img a.0 a.1)
 
   module _ (a : Place) (h : a.1 < slots) where
     pub ref-key : key_of_ref z img (ref_to z img a) ≡ keyAt z img a.0 a.1

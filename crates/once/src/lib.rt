@@ -1,5 +1,7 @@
 // Whether no key has two slots in a segment's chain. The full slots are met in passes: a pass takes those whose keys have its number, and
 // keeps references to those that it met in a table, by which a key is found again.
+#![tactic(auto)]
+
 pub mod slow;
 pub mod table;
 
@@ -16,7 +18,7 @@ use layout::Shape;
 
 // How the full slots of a chain are shared out: a number of the key gives the pass in its low bits and the place in the table in those
 // above. The number is the lookup key, or where that has too few bits more of the hash.
-#[derive(Drop)]
+#[derive(Clone, Copy)]
 pub struct Sharing {
     pub byHash: bool,
     pub passBits: usize,

@@ -1,4 +1,6 @@
 // Signed delays by pair of channels: asked and set in either order, kept once.
+#![tactic(auto)]
+
 ghost use Rattle.std.specs.Prelude.{◌≡◌, ◌≢◌, ◌^◌, ◌<◌};
 ghost use Rattle.std.specs.Int.{w32};
 ghost use Rattle.std.proofs.Common.{to_z, of_z};
@@ -14,7 +16,7 @@ use image::{Outcome, Stage};
 use quick::Opened;
 
 // An ask's answer: the delay in microseconds; none; 11; 12; a refusal of the store.
-#[derive(Drop)]
+#[derive(Clone, Copy)]
 pub enum Asked {
     Found(i32),
     Absent,
@@ -24,7 +26,7 @@ pub enum Asked {
 }
 
 // A set's answer: the store's; 11; 12.
-#[derive(Drop)]
+#[derive(Clone, Copy)]
 pub enum SetAnswer {
     Stored(Answer),
     BadPair,

@@ -11,7 +11,7 @@ use Rattle.layout.specs.Tiers.{IsTier}
 use Rattle.layout.specs.Places.{mark}
 use Rattle.layout.specs.Frame.{Image}
 use Rattle.chains.specs.Chains.{chain}
-use Rattle.entries.specs.Keys.{KeyFits, segment_of, lookup_key, slotKey, slot_chunk, slot_rest, slot_with}
+use Rattle.entries.specs.Keys.{KeyFits, segment_of, lookup_key, slot_key, slot_chunk, slot_rest, slot_with}
 use Rattle.entries.specs.Stored.{chunks_for, ValueFits}
 use Rattle.entries.specs.Live.{full_slots}
 use Rattle.entries.proofs.Hashes.{lookup-lt, lookup-full}
@@ -86,7 +86,7 @@ module _ {z : Shape} {img but : List ℕ} {s t c : ℕ} {key value : List ℕ} (
   pub number_fits : number_for z key c < 256 ^ slotSize
   number_fits = slot_with-fits settings (lookup_key settings key) c (lookup-lt p.sound.fits.valid key) chunk-bits p.sound.fits.valid
 
-  pub number-key : slotKey settings (number_for z key c) ≡ lookup_key settings key
+  pub number-key : slot_key settings (number_for z key c) ≡ lookup_key settings key
   number-key = slot_key-with settings (lookup_key settings key) c (lookup-lt p.sound.fits.valid key)
 
   pub number-chunk : slot_chunk settings (number_for z key c) ≡ c

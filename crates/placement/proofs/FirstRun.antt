@@ -15,8 +15,8 @@ use Rattle.chains.specs.Chains.{next_of}
 use Rattle.chunks.specs.Chunks.{LowMarkFits}
 use Rattle.placement.specs.declared.Run.{Run}
 use Rattle.placement.specs.declared.Run.TheVariants.{At, Nowhere}
-use Rattle.placement.specs.Runs.{from_lowest, lowest_run, run_in, firstRun}
-use Rattle.placement.specs.Asking.{tiersFrom}
+use Rattle.placement.specs.Runs.{from_lowest, lowest_run, run_in, first_run}
+use Rattle.placement.specs.Asking.{tiers_from}
 
 -- a run, or another where it is nowhere
 abbrev or_else : Run → Run → Run
@@ -39,40 +39,40 @@ module _ (z : Shape) (full : ℕ → ℕ) (isClear : ℕ → ℕ → Bool) where
 
   -- ---- a tier in front of others
 
-  pub first-none : (n : ℕ) → firstRun z full isClear [] n ≡ Nowhere
-  unfolding firstRun
+  pub first-none : (n : ℕ) → first_run z full isClear [] n ≡ Nowhere
+  unfolding first_run
   first-none n = refl
 
-  pub first_found : (t : ℕ) (ts : List ℕ) (n u c : ℕ) → run_in z full isClear t n ≡ At u c → firstRun z full isClear (t ∷ ts) n ≡ At u c
-  unfolding firstRun
-  first_found t ts n u c e = rw (firstRun, e)
+  pub first_found : (t : ℕ) (ts : List ℕ) (n u c : ℕ) → run_in z full isClear t n ≡ At u c → first_run z full isClear (t ∷ ts) n ≡ At u c
+  unfolding first_run
+  first_found t ts n u c e = rw (first_run, e)
 
   pub first_next : (t : ℕ) (ts : List ℕ) (n : ℕ) → run_in z full isClear t n ≡ Nowhere
-      → firstRun z full isClear (t ∷ ts) n ≡ firstRun z full isClear ts n
-  unfolding firstRun
-  first_next t ts n e = rw (firstRun, e)
+      → first_run z full isClear (t ∷ ts) n ≡ first_run z full isClear ts n
+  unfolding first_run
+  first_next t ts n e = rw (first_run, e)
 
   -- ---- tiers in front of others: the first of them that takes it, or else the first of the others
 
   first-append : (front ts : List ℕ) (n : ℕ)
-      → firstRun z full isClear (front ++ ts) n ≡ or_else (firstRun z full isClear front n) (firstRun z full isClear ts n)
-  unfolding firstRun
+      → first_run z full isClear (front ++ ts) n ≡ or_else (first_run z full isClear front n) (first_run z full isClear ts n)
+  unfolding first_run
   first-append [] ts n = refl
   first-append (t ∷ front) ts n =
-      append-by (run_in z full isClear t n) (firstRun z full isClear (front ++ ts) n) (firstRun z full isClear front n)
-      (firstRun z full isClear ts n) (first-append front ts n)
+      append-by (run_in z full isClear t n) (first_run z full isClear (front ++ ts) n) (first_run z full isClear front n)
+      (first_run z full isClear ts n) (first-append front ts n)
 
   module _ (front ts : List ℕ) (n : ℕ) where
-    pub first-kept : (u c : ℕ) → firstRun z full isClear front n ≡ At u c → firstRun z full isClear (front ++ ts) n ≡ At u c
+    pub first-kept : (u c : ℕ) → first_run z full isClear front n ≡ At u c → first_run z full isClear (front ++ ts) n ≡ At u c
     first-kept u c e = first-append front ts n ∙ rw e
 
-    pub first_passes : firstRun z full isClear front n ≡ Nowhere → firstRun z full isClear (front ++ ts) n ≡ firstRun z full isClear ts n
+    pub first_passes : first_run z full isClear front n ≡ Nowhere → first_run z full isClear (front ++ ts) n ≡ first_run z full isClear ts n
     first_passes e = first-append front ts n ∙ rw e
 
-  pub first_one : (t n : ℕ) → firstRun z full isClear (t ∷ []) n ≡ run_in z full isClear t n
+  pub first_one : (t n : ℕ) → first_run z full isClear (t ∷ []) n ≡ run_in z full isClear t n
   first_one t n = one-by (run_in z full isClear t n) refl
     where
-      one-by : (r : Run) → run_in z full isClear t n ≡ r → firstRun z full isClear (t ∷ []) n ≡ r
+      one-by : (r : Run) → run_in z full isClear t n ≡ r → first_run z full isClear (t ∷ []) n ≡ r
       one-by (At u c) e = first_found t [] n u c e
       one-by Nowhere e = first_next t [] n e ∙ first-none n
 
@@ -81,13 +81,13 @@ module _ (z : Shape) (full : ℕ → ℕ) (isClear : ℕ → ℕ → Bool) where
   module _ (img : List ℕ) (n : ℕ) where
     pub record Seeking (r : Run) (most t k : ℕ) : Type 0 where
       pub most_is : most ≡ tiers z
-      pub is : firstRun z full isClear (tiersFrom z img t k) n ≡ r
-      pub tiers_of : Every (tiersFrom z img t k) (IsTier z)
-      pub low_marks : Every (tiersFrom z img t k) (LowMarkFits z img)
+      pub is : first_run z full isClear (tiers_from z img t k) n ≡ r
+      pub tiers_of : Every (tiers_from z img t k) (IsTier z)
+      pub low_marks : Every (tiers_from z img t k) (LowMarkFits z img)
 
     module _ {r : Run} {most t k : ℕ} (w : Seeking r most t k) where
-      none_left : tiersFrom z img t k ≡ [] → Nowhere ≡ r
-      none_left e = sym (first-none n) ∙ ap (λ (ts : List ℕ). firstRun z full isClear ts n) (sym e) ∙ w.is
+      none_left : tiers_from z img t k ≡ [] → Nowhere ≡ r
+      none_left e = sym (first-none n) ∙ ap (λ (ts : List ℕ). first_run z full isClear ts n) (sym e) ∙ w.is
 
       pub seeking-ends : t ≡ 0 → Nowhere ≡ r
       seeking-ends e = none_left (rw e (follow-none (next_of z img) (tiers z - k)))
@@ -96,7 +96,7 @@ module _ (z : Shape) (full : ℕ → ℕ) (isClear : ℕ → ℕ → Bool) where
       seeking-out h = let e : tiers z - k ≡ 0 = omega (arith, w.most_is) in none_left (rw e (follow-out (next_of z img) t))
 
       module _ (h : k < most) (ne : t ≢ 0) where
-        more : tiersFrom z img t k ≡ t ∷ tiersFrom z img (next_of z img t) (k + 1)
+        more : tiers_from z img t k ≡ t ∷ tiers_from z img (next_of z img t) (k + 1)
         more =
             let e : tiers z - k ≡ suc (tiers z - (k + 1)) = omega (arith, w.most_is) in
             rw e (follow-more (next_of z img) (tiers z - (k + 1)) t ne)
@@ -104,8 +104,8 @@ module _ (z : Shape) (full : ℕ → ℕ) (isClear : ℕ → ℕ → Bool) where
         pub seeking-tier : IsTier z t × LowMarkFits z img t
         seeking-tier = (w.tiers_of t (rw more (Memᴰ.head refl)), w.low_marks t (rw more (Memᴰ.head refl)))
 
-        left_is : firstRun z full isClear (t ∷ tiersFrom z img (next_of z img t) (k + 1)) n ≡ r
-        left_is = ap (λ (ts : List ℕ). firstRun z full isClear ts n) (sym more) ∙ w.is
+        left_is : first_run z full isClear (t ∷ tiers_from z img (next_of z img t) (k + 1)) n ≡ r
+        left_is = ap (λ (ts : List ℕ). first_run z full isClear ts n) (sym more) ∙ w.is
 
         pub seeking-found : (u c : ℕ) → run_in z full isClear t n ≡ At u c → At u c ≡ r
         seeking-found u c f = sym (first_found t _ n u c f) ∙ left_is

@@ -19,7 +19,7 @@ use Rattle.probe.proofs.Table.{Lawful}
 use Rattle.probe.proofs.Search.{room-empty}
 use Rattle.probe.proofs.Insertion.{insert-totals, insert-good}
 use Rattle.probe.proofs.Has.{inserted-empty}
-use Rattle.entries.specs.Keys.{start, slotKey}
+use Rattle.entries.specs.Keys.{start, slot_key}
 use Rattle.entries.specs.Stored.{entry_bytes, chunks_for}
 use Rattle.entries.specs.Live.{slot_at}
 use Rattle.search.specs.Search.{slots_of}
@@ -52,7 +52,7 @@ wrote z img t c key value =
     sets (put_marks z img t c (chunks_for z.settings (length key) (length value)) 1) (chunk_at z t c) (entry_bytes z.settings key value)
 
 abbrev pub place : Shape → List ℕ → ℕ → ℕ → List ℕ → List ℕ → ℕ
-place z img t c key value = room (slots_of z t) (wrote z img t c key value) (start z.settings (slotKey z.settings (number_for z key c)))
+place z img t c key value = room (slots_of z t) (wrote z img t c key value) (start z.settings (slot_key z.settings (number_for z key c)))
 
 abbrev pub after : Shape → List ℕ → ℕ → ℕ → List ℕ → List ℕ → List ℕ
 after z img t c key value =

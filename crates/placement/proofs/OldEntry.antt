@@ -19,7 +19,7 @@ use Rattle.chunks.proofs.LowMark.{low-mark-few, low-mark-below}
 use Rattle.counters.proofs.CountRoom.{full-few}
 use Rattle.placement.specs.declared.Old.{Old}
 use Rattle.placement.specs.OldEntry.{old_at}
-use Rattle.placement.specs.Runs.{full_in, fullBut, clearBut}
+use Rattle.placement.specs.Runs.{full_in, full_but, clear_but}
 use Rattle.placement.specs.Asking.{NoneClearBelow}
 
 -- ---- the entry of a slot, as it is read
@@ -45,20 +45,20 @@ module _ (z : Shape) (img : List ℕ) (old : Old) (t : ℕ) where
   -- ---- a chunk
 
   module _ (i : ℕ) where
-    pub clear-old : t ≡ old.tier → old.chunk ≤ i → i < old.chunk + old.chunks → true ≡ clearBut z img old t i
-    unfolding clearBut
+    pub clear-old : t ≡ old.tier → old.chunk ≤ i → i < old.chunk + old.chunks → true ≡ clear_but z img old t i
+    unfolding clear_but
     clear-old e a b = rw (eq-eqb t old.tier e, le-leb old.chunk i a, lt-ltb i (old.chunk + old.chunks) b)
 
-    pub clear_else : t ≢ old.tier → clear z img t i ≡ clearBut z img old t i
-    unfolding clearBut
+    pub clear_else : t ≢ old.tier → clear z img t i ≡ clear_but z img old t i
+    unfolding clear_but
     clear_else e = rw (ne_eqb t old.tier e)
 
-    pub clear-before : i < old.chunk → clear z img t i ≡ clearBut z img old t i
-    unfolding clearBut
+    pub clear-before : i < old.chunk → clear z img t i ≡ clear_but z img old t i
+    unfolding clear_but
     clear-before h = rw (lt-leb old.chunk i h, and-false (eqb t old.tier))
 
-    pub clear-after : old.chunk + old.chunks ≤ i → clear z img t i ≡ clearBut z img old t i
-    unfolding clearBut
+    pub clear-after : old.chunk + old.chunks ≤ i → clear z img t i ≡ clear_but z img old t i
+    unfolding clear_but
     clear-after h =
         rw (le-ltb i (old.chunk + old.chunks) h, and-false (leb old.chunk i), and-false (eqb t old.tier))
 
@@ -76,15 +76,15 @@ module _ (z : Shape) (img : List ℕ) (old : Old) (t : ℕ) where
 
   -- ---- the slots
 
-  pub full-old : t ≡ old.tier → full_in z img t - 1 ≡ fullBut z img old t
-  unfolding fullBut
-  full-old e = rw (fullBut, eq-eqb t old.tier e)
+  pub full-old : t ≡ old.tier → full_in z img t - 1 ≡ full_but z img old t
+  unfolding full_but
+  full-old e = rw (full_but, eq-eqb t old.tier e)
 
-  pub full_else : t ≢ old.tier → full_in z img t ≡ fullBut z img old t
-  unfolding fullBut
-  full_else e = rw (fullBut, ne_eqb t old.tier e)
+  pub full_else : t ≢ old.tier → full_in z img t ≡ full_but z img old t
+  unfolding full_but
+  full_else e = rw (full_but, ne_eqb t old.tier e)
 
-pub full_but-le : (z : Shape) (img : List ℕ) (old : Old) (t : ℕ) → fullBut z img old t ≤ z.settings.slots
+pub full_but-le : (z : Shape) (img : List ℕ) (old : Old) (t : ℕ) → full_but z img old t ≤ z.settings.slots
 full_but-le z img old t =
     let h : full_in z img t ≤ z.settings.slots = full-few z img t in
     by-test (eqb t old.tier)

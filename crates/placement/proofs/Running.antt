@@ -19,7 +19,7 @@ use Rattle.chunks.specs.Chunks.{clear}
 use Rattle.placement.specs.declared.Old.{Old}
 use Rattle.placement.specs.declared.Run.{Run}
 use Rattle.placement.specs.declared.Run.TheVariants.{At, Nowhere}
-use Rattle.placement.specs.Runs.{from_lowest, clear_from, lowest_run, run_in, firstRun, run_for, full_in, fullBut, clearBut}
+use Rattle.placement.specs.Runs.{from_lowest, clear_from, lowest_run, run_in, first_run, run_for, full_in, full_but, clear_but}
 use Rattle.placement.proofs.OldEntry.{clear_else, full_else}
 
 -- ---- what is found
@@ -71,19 +71,19 @@ module _ (z : Shape) (full : ℕ → ℕ) (isClear : ℕ → ℕ → Bool) where
       (λ e. let y : Nowhere ≡ At u c = rw (e, run_in) at h in absurd (let y : ◌≡◌ {A = ℕ} 0 1 = cc in omega arith))
 
   first_run : (r : Run) (u : ℕ) (ts : List ℕ) (n t c : ℕ) → run_in z full isClear u n ≡ r
-      → (firstRun z full isClear ts n ≡ At t c → Memᴰ t ts × Takes t c n)
-      → elim r [ At v d ↦ At v d | Nowhere ↦ firstRun z full isClear ts n ] ≡ At t c → Memᴰ t (u ∷ ts) × Takes t c n
+      → (first_run z full isClear ts n ≡ At t c → Memᴰ t ts × Takes t c n)
+      → elim r [ At v d ↦ At v d | Nowhere ↦ first_run z full isClear ts n ] ≡ At t c → Memᴰ t (u ∷ ts) × Takes t c n
   first_run (At v d) u ts n t c e f h =
       let q : (t ≡ u) × Takes u c n = run_in_found u n t c (e ∙ h) in
       (mathlib.Core.List.Memᴰ.head q.0, rw q.0 q.1)
   first_run Nowhere u ts n t c e f h = let q : Memᴰ t ts × Takes t c n = f h in (mathlib.Core.List.Memᴰ.tail q.0, q.1)
 
-  found : (ts : List ℕ) (n t c : ℕ) → firstRun z full isClear ts n ≡ At t c → Memᴰ t ts × Takes t c n
-  unfolding firstRun
+  found : (ts : List ℕ) (n t c : ℕ) → first_run z full isClear ts n ≡ At t c → Memᴰ t ts × Takes t c n
+  unfolding first_run
   found [] n t c h = absurd (let y : ◌≡◌ {A = ℕ} 0 1 = cc in omega arith)
   found (u ∷ ts) n t c h = first_run (run_in z full isClear u n) u ts n t c refl (found ts n t c) h
 
-pub run-found : (z : Shape) (full : ℕ → ℕ) (isClear : ℕ → ℕ → Bool) (ts : List ℕ) (n t c : ℕ) → firstRun z full isClear ts n ≡ At t c
+pub run-found : (z : Shape) (full : ℕ → ℕ) (isClear : ℕ → ℕ → Bool) (ts : List ℕ) (n t c : ℕ) → first_run z full isClear ts n ≡ At t c
     → Memᴰ t ts × (full t + 2 ≤ z.settings.slots) × (c + n ≤ z.settings.chunks)
     × ((i : ℕ) → c ≤ i → i < c + n → isClear t i ≡ true)
 run-found z full isClear ts n t c h =
@@ -120,21 +120,21 @@ module _ (z : Shape) (full full' : ℕ → ℕ) (isClear isClear' : ℕ → ℕ 
 pub run-same : (z : Shape) (full full' : ℕ → ℕ) (isClear isClear' : ℕ → ℕ → Bool) (ts : List ℕ) (n : ℕ)
     → Every ts (λ t. full t ≡ full' t)
     → Every ts (λ t. Below z.settings.chunks (λ i. isClear t i ≡ isClear' t i))
-    → firstRun z full isClear ts n ≡ firstRun z full' isClear' ts n
-unfolding firstRun
+    → first_run z full isClear ts n ≡ first_run z full' isClear' ts n
+unfolding first_run
 run-same z full full' isClear isClear' [] n e f = refl
 run-same z full full' isClear isClear' (t ∷ ts) n e f =
     let here : run_in z full isClear t n ≡ run_in z full' isClear' t n =
     run_in_same z full full' isClear isClear' t n (e t (mathlib.Core.List.Memᴰ.head refl)) (f t (mathlib.Core.List.Memᴰ.head refl)) in
-    let there : firstRun z full isClear ts n ≡ firstRun z full' isClear' ts n =
+    let there : first_run z full isClear ts n ≡ first_run z full' isClear' ts n =
     run-same z full full' isClear isClear' ts n (λ u m. e u (mathlib.Core.List.Memᴰ.tail m)) (λ u m. f u (mathlib.Core.List.Memᴰ.tail m)) in
     λ i. elim (here i) [ At u c ↦ At u c | Nowhere ↦ there i ]
 
 -- in tiers that are not the old entry's it does not matter that this counts as removed
 pub run-others : (z : Shape) (img : List ℕ) (old : Old) (ts : List ℕ) (n : ℕ) → Every ts (λ t. t ≢ old.tier)
-    → firstRun z (fullBut z img old) (clearBut z img old) ts n ≡ run_for z img ts n
+    → first_run z (full_but z img old) (clear_but z img old) ts n ≡ run_for z img ts n
 unfolding run_for
 run-others z img old ts n ne =
-    run-same z (fullBut z img old) (full_in z img) (clearBut z img old) (clear z img) ts n
+    run-same z (full_but z img old) (full_in z img) (clear_but z img old) (clear z img) ts n
     (λ t m. sym (full_else z img old t (ne t m)))
     (λ t m i h. sym (clear_else z img old t i (ne t m)))

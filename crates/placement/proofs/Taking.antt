@@ -20,7 +20,7 @@ use Rattle.search.specs.Rules.{SomeEmpty}
 use Rattle.sound.proofs.Sums.{full-total}
 use Rattle.placement.specs.declared.Run.{Run}
 use Rattle.placement.specs.declared.Run.TheVariants.{At, Nowhere}
-use Rattle.placement.specs.Runs.{from_lowest, clear_from, lowest_run, run_in, firstRun, full_in}
+use Rattle.placement.specs.Runs.{from_lowest, clear_from, lowest_run, run_in, first_run, full_in}
 use Rattle.placement.proofs.Running.{Takes}
 use Rattle.placement.proofs.LowestRun.{clear-from}
 use Rattle.placement.proofs.FirstRun.{run-lowest, first_next}
@@ -47,13 +47,13 @@ module _ (z : Shape) (full : ℕ → ℕ) (isClear : ℕ → ℕ → Bool) (n : 
     run-taken : run_in z full isClear t n ≢ Nowhere
     run-taken e = run_by (lowest_run z full isClear t n) refl (run-lowest z full isClear t n k.roomy ∙ e)
 
-  first_by : (r : Run) (u : ℕ) (ts : List ℕ) → run_in z full isClear u n ≡ r → (r ≡ Nowhere → firstRun z full isClear ts n ≢ Nowhere)
-      → firstRun z full isClear (u ∷ ts) n ≢ Nowhere
-  unfolding firstRun
-  first_by (At v d) u ts e f q = let at : At v d ≡ Nowhere = rw (e, firstRun) at q in let never : ◌≡◌ {A = ℕ} 0 1 = cc in omega arith
+  first_by : (r : Run) (u : ℕ) (ts : List ℕ) → run_in z full isClear u n ≡ r → (r ≡ Nowhere → first_run z full isClear ts n ≢ Nowhere)
+      → first_run z full isClear (u ∷ ts) n ≢ Nowhere
+  unfolding first_run
+  first_by (At v d) u ts e f q = let at : At v d ≡ Nowhere = rw (e, first_run) at q in let never : ◌≡◌ {A = ℕ} 0 1 = cc in omega arith
   first_by Nowhere u ts e f q = f refl (sym (first_next z full isClear u ts n e) ∙ q)
 
-  pub first_taken : (t c : ℕ) → Takes z full isClear t c n → (ts : List ℕ) → Memᴰ t ts → firstRun z full isClear ts n ≢ Nowhere
+  pub first_taken : (t c : ℕ) → Takes z full isClear t c n → (ts : List ℕ) → Memᴰ t ts → first_run z full isClear ts n ≢ Nowhere
   first_taken t c k [] m = absurd (Memᴰ.not-nil m)
   first_taken t c k (u ∷ ts) m =
       first_by (run_in z full isClear u n) u ts refl
@@ -65,15 +65,15 @@ module _ (z : Shape) (full : ℕ → ℕ) (isClear : ℕ → ℕ → Bool) (n : 
 
   -- nor does it matter what comes after that tier
   pub first-within : (t c : ℕ) → Takes z full isClear t c n → (xs ys : List ℕ)
-      → firstRun z full isClear (xs ++ (t ∷ ys)) n ≡ firstRun z full isClear (xs ++ (t ∷ [])) n
-  unfolding firstRun
+      → first_run z full isClear (xs ++ (t ∷ ys)) n ≡ first_run z full isClear (xs ++ (t ∷ [])) n
+  unfolding first_run
   first-within t c k [] ys = here (run_in z full isClear t n) refl
     where
-      here : (r : Run) → run_in z full isClear t n ≡ r → firstRun z full isClear (t ∷ ys) n ≡ firstRun z full isClear (t ∷ []) n
-      here (At u d) e = rw (e, firstRun)
+      here : (r : Run) → run_in z full isClear t n ≡ r → first_run z full isClear (t ∷ ys) n ≡ first_run z full isClear (t ∷ []) n
+      here (At u d) e = rw (e, first_run)
       here Nowhere e = absurd (run-taken t c k e)
   first-within t c k (x ∷ xs) ys =
-      let later : firstRun z full isClear (xs ++ (t ∷ ys)) n ≡ firstRun z full isClear (xs ++ (t ∷ [])) n = first-within t c k xs ys in
+      let later : first_run z full isClear (xs ++ (t ∷ ys)) n ≡ first_run z full isClear (xs ++ (t ∷ [])) n = first-within t c k xs ys in
       λ i. elim (run_in z full isClear x n) [ At u d ↦ At u d | Nowhere ↦ later i ]
 
 -- a tier with an empty slot has fewer full ones than slots

@@ -25,8 +25,8 @@ use Rattle.placement.specs.declared.NewSlot.TheVariants.{Known, Unknown}
 use Rattle.placement.specs.declared.walk.Candidate.{Candidate}
 use Rattle.placement.specs.declared.walk.Walk.{Walk}
 use Rattle.placement.specs.OldEntry.{no_old, old_at, old_found}
-use Rattle.placement.specs.Runs.{run_in, firstRun, run_for, fullBut, clearBut}
-use Rattle.placement.specs.Asking.{tiersFrom, CanScanRest, CanWalk}
+use Rattle.placement.specs.Runs.{run_in, first_run, run_for, full_but, clear_but}
+use Rattle.placement.specs.Asking.{tiers_from, CanScanRest, CanWalk}
 use Rattle.placement.specs.Walking.{CandidateIn, CandidateAfter, Walked, PlaceIs}
 use Rattle.placement.proofs.FirstRun.{first-none, first-kept, first_passes, first_one}
 use Rattle.placement.proofs.Running.{run-found, run-others}
@@ -50,11 +50,11 @@ module _ (z : Shape) (img : List ℕ) where
         record { run_is = e ∙ sym (first-kept z _ _ done (t ∷ []) n u c (sym s.run_is ∙ e)); slot_is = s.slot_is }
 
     pub candidate_tier : {old : Old} {r : Run} → IsTier z t → x.run ≡ Nowhere → old ≡ no_old
-        → r ≡ run_in z (fullBut z img old) (clearBut z img old) t n
+        → r ≡ run_in z (full_but z img old) (clear_but z img old) t n
         → CandidateAfter z img n x t j (record { run = r; slot = j })
     unfolding run_for
     candidate_tier {old} {r} is e eo er key done f s =
-        let one : r ≡ firstRun z (fullBut z img old) (clearBut z img old) (t ∷ []) n = er ∙ sym (first_one z _ _ t n) in
+        let one : r ≡ first_run z (full_but z img old) (clear_but z img old) (t ∷ []) n = er ∙ sym (first_one z _ _ t n) in
         let none-there : old.tier ≡ 0 = ap (λ (o : Old). o.tier) eo in
         let others : Every (t ∷ []) (λ u. u ≢ old.tier) =
         λ u m (q : u ≡ old.tier). let same : u ≡ t = Memᴰ.eq_of_singleton m in omega (arith, is) in
@@ -160,10 +160,10 @@ module _ (z : Shape) (img : List ℕ) where
 
     module _ {w : Walk} (d : Walked z img key n w) where
       abbrev run : List ℕ → Run
-      run ts = firstRun z (fullBut z img w.old) (clearBut z img w.old) ts n
+      run ts = first_run z (full_but z img w.old) (clear_but z img w.old) ts n
 
       abbrev rest : List ℕ
-      rest = tiersFrom z img w.old.tier w.passed
+      rest = tiers_from z img w.old.tier w.passed
 
       in_front : run d.front ≡ w.candidate.run
       in_front = run-others z img w.old d.front n d.others ∙ sym d.candidate_is.run_is

@@ -15,7 +15,7 @@ use Rattle.placement.specs.declared.Old.{Old}
 use Rattle.placement.specs.declared.NewSlot.{NewSlot}
 use Rattle.placement.specs.declared.NewSlot.TheVariants.{Known}
 use Rattle.placement.specs.OldEntry.{old_found}
-use Rattle.placement.specs.Runs.{clearBut}
+use Rattle.placement.specs.Runs.{clear_but}
 use Rattle.entries.specs.Keys.{longest_key, segment_of}
 
 module _ (z : Shape) (img : List ℕ) where
@@ -64,7 +64,7 @@ module _ (z : Shape) (img : List ℕ) where
 
   -- a place in tier t's chunks below which none is clear
   abbrev pub NoneClearBelow : Old → ℕ → ℕ → Type 0
-  NoneClearBelow old t c = (c ≤ chunks) × Below c (λ i. clearBut z img old t i ≡ false)
+  NoneClearBelow old t c = (c ≤ chunks) × Below c (λ i. clear_but z img old t i ≡ false)
 
   -- in tier t
   pub record CanScan (old : Old) (t n : ℕ) : Type 0 where
@@ -74,14 +74,14 @@ module _ (z : Shape) (img : List ℕ) where
     pub old_ends : OldEnds old
 
   -- the tiers from t on, where `passed` tiers were met before
-  abbrev pub tiersFrom : ℕ → ℕ → List ℕ
-  tiersFrom t passed = follow z img (tiers z - passed) t
+  abbrev pub tiers_from : ℕ → ℕ → List ℕ
+  tiers_from t passed = follow z img (tiers z - passed) t
 
   -- in the tiers from the old entry's on
   pub record CanScanRest (old : Old) (passed n : ℕ) : Type 0 where
     pub framed : Framed z (length img)
-    pub tiers_of : Every (tiersFrom old.tier passed) (IsTier z)
-    pub low_marks : Every (tiersFrom old.tier passed) (LowMarkFits z img)
+    pub tiers_of : Every (tiers_from old.tier passed) (IsTier z)
+    pub low_marks : Every (tiers_from old.tier passed) (LowMarkFits z img)
     pub some : 0 < n
     pub old_ends : OldEnds old
 

@@ -33,9 +33,9 @@ module _ (z : Shape) (full : ℕ → ℕ) (isClear : ℕ → ℕ → Bool) where
   run_in t n = elim (leb (full t + 2) slots) [ false ↦ Nowhere | true ↦ from_lowest t (lowest_run t n) ]
 
   -- of some tiers, the first that takes it
-  unfoldable pub firstRun : List ℕ → ℕ → Run
-  firstRun [] n = Nowhere
-  firstRun (t ∷ ts) n = elim (run_in t n) [ At u c ↦ At u c | Nowhere ↦ firstRun ts n ]
+  unfoldable pub first_run : List ℕ → ℕ → Run
+  first_run [] n = Nowhere
+  first_run (t ∷ ts) n = elim (run_in t n) [ At u c ↦ At u c | Nowhere ↦ first_run ts n ]
 
 module _ (z : Shape) (img : List ℕ) where
   -- as the image stands
@@ -43,11 +43,11 @@ module _ (z : Shape) (img : List ℕ) where
   full_in t = length (full_slots z img t)
 
   unfoldable pub run_for : List ℕ → ℕ → Run
-  run_for ts n = firstRun z full_in (clear z img) ts n
+  run_for ts n = first_run z full_in (clear z img) ts n
 
   -- as if the old entry were removed: its tier has one full slot less, and its chunks are clear
-  unfoldable pub fullBut : Old → ℕ → ℕ
-  fullBut old t = elim (eqb t old.tier) [ true ↦ full_in t - 1 | false ↦ full_in t ]
+  unfoldable pub full_but : Old → ℕ → ℕ
+  full_but old t = elim (eqb t old.tier) [ true ↦ full_in t - 1 | false ↦ full_in t ]
 
-  unfoldable pub clearBut : Old → ℕ → ℕ → Bool
-  clearBut old t i = (eqb t old.tier && (leb old.chunk i && ltb i (old.chunk + old.chunks))) || clear z img t i
+  unfoldable pub clear_but : Old → ℕ → ℕ → Bool
+  clear_but old t i = (eqb t old.tier && (leb old.chunk i && ltb i (old.chunk + old.chunks))) || clear z img t i

@@ -11,8 +11,8 @@ use Rattle.placement.specs.declared.walk.Candidate.{Candidate}
 use Rattle.placement.specs.declared.walk.Walk.{Walk}
 use Rattle.placement.specs.declared.walk.EntryPlace.{EntryPlace}
 use Rattle.placement.specs.OldEntry.{old_found}
-use Rattle.placement.specs.Runs.{firstRun, run_for, fullBut, clearBut}
-use Rattle.placement.specs.Asking.{tiersFrom}
+use Rattle.placement.specs.Runs.{first_run, run_for, full_but, clear_but}
+use Rattle.placement.specs.Asking.{tiers_from}
 
 module _ (z : Shape) (img : List ℕ) where
   -- of some tiers the first that takes the entry, and its first empty slot from the key's start slot on
@@ -28,7 +28,7 @@ module _ (z : Shape) (img : List ℕ) where
     -- the tiers of the chain before the old entry's, and the candidate in them
     pub record Walked (w : Walk) : Type 0 where
       pub front : List ℕ
-      pub chain_is : chain z img (segment_of z.settings key) ≡ front ++ tiersFrom z img w.old.tier w.passed
+      pub chain_is : chain z img (segment_of z.settings key) ≡ front ++ tiers_from z img w.old.tier w.passed
       pub others : Every front (λ t. t ≢ w.old.tier)
       pub candidate_is : CandidateIn key n front w.candidate
       pub old_is : w.old ≡ old_found z img (search z img key)
@@ -36,7 +36,7 @@ module _ (z : Shape) (img : List ℕ) where
     -- the place in the whole chain, where the old entry counts as removed; a known slot is not in the old entry's tier
     pub record PlaceIs (p : EntryPlace) : Type 0 where
       pub old_is : p.old ≡ old_found z img (search z img key)
-      pub run_is : p.run ≡ firstRun z (fullBut z img p.old) (clearBut z img p.old) (chain z img (segment_of z.settings key)) n
+      pub run_is : p.run ≡ first_run z (full_but z img p.old) (clear_but z img p.old) (chain z img (segment_of z.settings key)) n
       pub slot_is : (t c j : ℕ) → p.run ≡ At t c → p.slot ≡ Known j → (j ≡ first_empty z img key t) × (t ≢ p.old.tier)
 
   -- the place, after a walk for any key

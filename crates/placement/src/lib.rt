@@ -1,4 +1,6 @@
 // Placement of an entry.
+#![tactic(auto)]
+
 pub mod place;
 pub mod runs;
 pub mod walk;
@@ -10,21 +12,21 @@ ghost use Rattle.placement.specs.OldEntry.{no_old, old_at};
 use layout::Shape;
 
 // Where an entry goes: the tier and its first chunk there, or no tier takes it.
-#[derive(Drop)]
+#[derive(Clone, Copy)]
 pub enum Run {
     At(usize, usize),
     Nowhere,
 }
 
 // The slot for a new key in a tier: known where the search for the key has ended there, at an empty slot.
-#[derive(Drop)]
+#[derive(Clone, Copy)]
 pub enum NewSlot {
     Known(usize),
     Unknown,
 }
 
 // The entry that a store replaces: its tier, or 0 where there is none, its slot and its chunks.
-#[derive(Drop)]
+#[derive(Clone, Copy)]
 pub struct Old {
     pub tier: usize,
     pub slot: usize,

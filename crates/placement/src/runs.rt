@@ -2,8 +2,8 @@
 ghost use Rattle.std.specs.Prelude.{◌≡◌};
 ghost use Rattle.layout.specs.FramedTier.{FramedTier};
 ghost use Rattle.chunks.specs.Chunks.{LowMarkFits};
-ghost use Rattle.placement.specs.Asking.{CanTest, NoneClearBelow, CanScan, tiersFrom, CanScanRest};
-ghost use Rattle.placement.specs.Runs.{from_lowest, lowest_run as runs_lowest_run, run_in as runs_run_in, firstRun, fullBut, clearBut};
+ghost use Rattle.placement.specs.Asking.{CanTest, NoneClearBelow, CanScan, tiers_from, CanScanRest};
+ghost use Rattle.placement.specs.Runs.{from_lowest, lowest_run as runs_lowest_run, run_in as runs_run_in, first_run as runs_first_run, full_but as runs_full_but, clear_but};
 
 use super::{Old, Run};
 use layout::Shape;
@@ -11,7 +11,7 @@ use layout::Shape;
 // Whether chunk i of tier t is clear.
 fn is_clear(z: Shape, img: &[u8], old: Old, t: usize, i: usize) -> bool
     requires { CanTest z img.now old t i }
-    ensures { result ≡ clearBut z img.now old t i }
+    ensures { result ≡ clear_but z img.now old t i }
 {
     if t == old.tier {
         if old.chunk <= i {
@@ -26,7 +26,7 @@ fn is_clear(z: Shape, img: &[u8], old: Old, t: usize, i: usize) -> bool
 // How many slots of tier t are full without the old entry.
 fn full_but(z: Shape, img: &[u8], old: Old, t: usize) -> usize
     requires { FramedTier z img.now t }
-    ensures { result ≡ fullBut z img.now old t }
+    ensures { result ≡ runs_full_but z img.now old t }
 {
     let full = counters::full_slots(z, img, t);
     if t == old.tier {
@@ -55,7 +55,7 @@ fn scan_from(z: Shape, img: &[u8], old: Old, t: usize) -> usize
 // The lowest run of n clear chunks in tier t; `have` clear chunks end before chunk i.
 fn lowest_run(z: Shape, img: &[u8], old: Old, t: usize, n: usize) -> Run
     requires { CanScan z img.now old t n }
-    ensures { result ≡ from_lowest t (runs_lowest_run z (fullBut z img.now old) (clearBut z img.now old) t n) }
+    ensures { result ≡ from_lowest t (runs_lowest_run z (runs_full_but z img.now old) (clear_but z img.now old) t n) }
 {
     let mut have = 0;
     let mut i = scan_from(z, img, old, t);
@@ -77,7 +77,7 @@ fn lowest_run(z: Shape, img: &[u8], old: Old, t: usize, n: usize) -> Run
 // The run in tier t, unless too many of its slots are full.
 pub fn run_in(z: Shape, img: &[u8], old: Old, t: usize, n: usize) -> Run
     requires { CanScan z img.now old t n }
-    ensures { result ≡ runs_run_in z (fullBut z img.now old) (clearBut z img.now old) t n }
+    ensures { result ≡ runs_run_in z (runs_full_but z img.now old) (clear_but z img.now old) t n }
 {
     let full = full_but(z, img, old, t);
     if z.settings.slots < full + 2 {
@@ -89,8 +89,8 @@ pub fn run_in(z: Shape, img: &[u8], old: Old, t: usize, n: usize) -> Run
 // Of the tiers from the old entry's on, after those that were passed, the first that takes an entry of n chunks.
 pub fn first_run(z: Shape, img: &[u8], old: Old, passed: usize, n: usize) -> Run
     requires { CanScanRest z img.now old passed n }
-    ensures { result ≡ firstRun z (fullBut z img.now old) (clearBut z img.now old)
-        (tiersFrom z img.now old.tier passed) n }
+    ensures { result ≡ runs_first_run z (runs_full_but z img.now old) (clear_but z img.now old)
+        (tiers_from z img.now old.tier passed) n }
 {
     let most = layout::tier_count(z);
     let mut t = old.tier;

@@ -8,14 +8,14 @@ use layout::Shape;
 use search::Sought;
 
 // Of the tiers that the search has passed, the first that takes the entry, and the empty slot that ended the search there.
-#[derive(Drop)]
+#[derive(Clone, Copy)]
 pub struct Candidate {
     run: Run,
     slot: usize,
 }
 
 // The walk up to the tier that holds the key: the entry there, how many tiers it has passed, and the candidate in those.
-#[derive(Drop)]
+#[derive(Clone, Copy)]
 pub struct Walk {
     pub old: Old,
     pub passed: usize,
@@ -23,7 +23,7 @@ pub struct Walk {
 }
 
 // Where the entry goes, and the entry that it replaces. The slot is known in a tier that the search has passed.
-#[derive(Drop)]
+#[derive(Clone, Copy)]
 pub struct EntryPlace {
     pub old: Old,
     pub run: Run,

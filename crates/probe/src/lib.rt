@@ -1,9 +1,11 @@
 // The slots of a ring: the next one, and distances.
+#![tactic(auto)]
+
 ghost use Rattle.std.specs.Prelude.{◌≡◌, ◌<◌, ◌≤◌};
 ghost use Rattle.probe.specs.Ring.{next, dist};
 
 // A place in a search: a slot of a table of `slots` slots.
-#[derive(Drop)]
+#[derive(Clone, Copy)]
 pub struct Cursor {
     pub slot: usize,
     pub slots: usize,

@@ -1,4 +1,6 @@
 // The quick lookup: it tests settings, frame and key, and then only what it meets on the way to the key.
+#![tactic(auto)]
+
 ghost use Rattle.std.specs.Prelude.{◌≡◌};
 ghost use Rattle.quick.specs.Quick.{opened, from_walk as quick_from_walk, quick_lookup as quick_quick_lookup};
 ghost use Rattle.quick.specs.Telling.{ParsesAlike, HashOf};
@@ -10,7 +12,7 @@ use settings::Parsed;
 use walk::WalkEnd;
 
 // What settings and frame give: the shape of the image, or a refusal.
-#[derive(Drop)]
+#[derive(Clone, Copy)]
 pub enum Opened {
     Ready(Shape),
     Refused(Stage),

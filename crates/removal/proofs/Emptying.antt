@@ -20,20 +20,20 @@ use Rattle.probe.specs.Ring.{next, dist}
 use Rattle.probe.specs.Removal.{stays, shift, remove}
 use Rattle.probe.proofs.Ring.{next-lt}
 use Rattle.probe.proofs.Removal.{shift-out, shift-empty, shift-stays, shift-moves}
-use Rattle.entries.specs.Keys.{start, slotKey}
+use Rattle.entries.specs.Keys.{start, slot_key}
 use Rattle.entries.specs.Live.{slot_at}
 use Rattle.search.specs.Search.{slots_of}
 use Rattle.removal.specs.Removal.{remove_at}
 use Rattle.sound.proofs.Framing.{framed-again}
 
 -- how far the start of v is from the hole h, where the code has its parts
-pub start-distance : (st : Settings) (v h : ℕ) {k x d : ℕ} → k ≡ slotKey st v → x ≡ start st k → d ≡ dist st.slots h x
-    → d ≡ dist st.slots h (start st (slotKey st v))
+pub start-distance : (st : Settings) (v h : ℕ) {k x d : ℕ} → k ≡ slot_key st v → x ≡ start st k → d ≡ dist st.slots h x
+    → d ≡ dist st.slots h (start st (slot_key st v))
 start-distance st v h ek ex ed = ed ∙ ap (dist st.slots h) (ex ∙ ap (start st) ek)
 
 -- the start of v lies on the stretch after the hole h up to and including i
 abbrev pub Stays : Settings → ℕ → ℕ → ℕ → Type 0
-Stays st v h i = (0 < dist st.slots h (start st (slotKey st v))) × (dist st.slots h (start st (slotKey st v)) ≤ dist st.slots h i)
+Stays st v h i = (0 < dist st.slots h (start st (slot_key st v))) × (dist st.slots h (start st (slot_key st v)) ≤ dist st.slots h i)
 
 -- the same as the test of the definition
 on_true : (d n : ℕ) → 0 < d → d ≤ n → (ltb 0 d && leb d n) ≡ true

@@ -1,11 +1,13 @@
 // Removal of an entry: its chunks are cleared, its slot is emptied, later slots move back.
+#![tactic(auto)]
+
 ghost use Rattle.std.specs.Prelude.{◌≡◌, ◌<◌, ◌≤◌};
 ghost use Rattle.lists.specs.Decide.{Decides};
 ghost use Rattle.settings.specs.Rules.{Valid};
 ghost use Rattle.layout.specs.FramedTier.{FramedSlot};
 ghost use Rattle.probe.specs.Ring.{dist};
 ghost use Rattle.probe.specs.Removal.{remove};
-ghost use Rattle.entries.specs.Keys.{start, slotKey};
+ghost use Rattle.entries.specs.Keys.{start, slot_key as keys_slot_key};
 ghost use Rattle.search.specs.Search.{slots_of};
 ghost use Rattle.removal.specs.Removal.{remove_at as removal_remove_at};
 ghost use Rattle.removal.specs.Asking.{CanRemove};
@@ -17,8 +19,8 @@ use settings::Settings;
 // Whether a slot i that holds v stays: its start lies on the stretch after the hole h up to and including i.
 fn stays(st: Settings, v: u64, h: usize, i: usize) -> bool
     requires { Valid st × (h < st.slots) × (i < st.slots) }
-    ensures { Decides result ((0 < dist st.slots h (start st (slotKey st v))) ×
-        (dist st.slots h (start st (slotKey st v)) ≤ dist st.slots h i)) }
+    ensures { Decides result ((0 < dist st.slots h (start st (keys_slot_key st v))) ×
+        (dist st.slots h (start st (keys_slot_key st v)) ≤ dist st.slots h i)) }
 {
     let from = entries::keys::start(st, entries::keys::slot_key(st, v));
     let d = probe::distance(st.slots, h, from);

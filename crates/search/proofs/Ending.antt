@@ -14,7 +14,7 @@ use Rattle.chains.specs.Chains.{chain, next_of}
 use Rattle.chains.proofs.Segments.{segments-le}
 use Rattle.probe.specs.Ring.{next, dist}
 use Rattle.probe.proofs.Ring.{dist-lt, dist-nearer}
-use Rattle.entries.specs.Keys.{segment_of, lookup_key, start, slotKey}
+use Rattle.entries.specs.Keys.{segment_of, lookup_key, start, slot_key}
 use Rattle.entries.specs.Live.{slot_at}
 use Rattle.search.specs.declared.Sought.TheVariants.{Holds, Empty}
 use Rattle.search.specs.declared.Found.TheVariants.{At}
@@ -65,7 +65,7 @@ module _ (z : Shape) (img : List ℕ) (t j : ℕ) where
               record { left = w.left - 1; seeking = seek-turns z img key t w.seeking fr v ev n e (omega arith) k ek; enough = omega arith }
 
       -- slot j stands for its own key
-      pub coming-found : lookup_key settings key ≡ slotKey settings (slot_at z img t j) → i ≡ j → seek_in z img key t ≡ j
+      pub coming-found : lookup_key settings key ≡ slot_key settings (slot_at z img t j) → i ≡ j → seek_in z img key t ≡ j
       coming-found l q =
           let h : hits z img key t (slot_at z img t i) ≡ true = rw q (hits-own z img key t j (sym l) refl) in
           sym (seek_found z img key t w.seeking (slot_at z img t i) refl h) ∙ q

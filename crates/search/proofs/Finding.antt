@@ -18,7 +18,7 @@ use Rattle.chains.specs.Chains.{chain, last_tier}
 use Rattle.chains.proofs.Segments.{chain-some, last-met}
 use Rattle.probe.specs.Search.{room, ends, seek}
 use Rattle.probe.proofs.Search.{probe-lt, seek-room, seek-empty-room, room-empty}
-use Rattle.entries.specs.Keys.{segment_of, lookup_key, start, slotKey}
+use Rattle.entries.specs.Keys.{segment_of, lookup_key, start, slot_key}
 use Rattle.entries.specs.Live.{slot_at, entry_at}
 use Rattle.entries.proofs.Hashes.{start-lt}
 use Rattle.search.specs.declared.Sought.TheVariants.{Holds, Empty}
@@ -38,11 +38,11 @@ module _ (z : Shape) (img : List ℕ) where
   pub hits-key : (key : List ℕ) (t j : ℕ) → hits z img key t (slot_at z img t j) ≡ true → keyAt z img t j ≡ key
   unfolding hits keyAt entry_at
   hits-key key t j h =
-      by-test (eqb (slotKey settings (slot_at z img t j)) (lookup_key settings key))
+      by-test (eqb (slot_key settings (slot_at z img t j)) (lookup_key settings key))
       (λ e. same_true _ key (rw e at h))
       (λ e. absurd (false≢true (rw e at h)))
 
-  pub hits-own : (key : List ℕ) (t j : ℕ) → slotKey settings (slot_at z img t j) ≡ lookup_key settings key → keyAt z img t j ≡ key
+  pub hits-own : (key : List ℕ) (t j : ℕ) → slot_key settings (slot_at z img t j) ≡ lookup_key settings key → keyAt z img t j ≡ key
       → hits z img key t (slot_at z img t j) ≡ true
   unfolding hits keyAt entry_at
   hits-own key t j e k = rw (eq-eqb _ _ e, hits) (same-eq _ key k)

@@ -18,7 +18,7 @@ use Rattle.probe.specs.Table.{Empty as EmptySlot, Good}
 use Rattle.probe.specs.Search.{ends}
 use Rattle.probe.proofs.Ring.{dist-inj}
 use Rattle.probe.proofs.Search.{First, seek-first, seek_hit, seek_finds}
-use Rattle.entries.specs.Keys.{segment_of, lookup_key, start, slotKey}
+use Rattle.entries.specs.Keys.{segment_of, lookup_key, start, slot_key}
 use Rattle.entries.specs.Live.{slot_at}
 use Rattle.entries.proofs.Hashes.{start-lt}
 use Rattle.search.specs.declared.Found.TheVariants.{At}
@@ -48,7 +48,7 @@ module _ (z : Shape) (img : List ℕ) where
           (seek_hit (slots_of z t) (slots-lawful im.framed t is) img _ some.0 (start-lt im.framed.valid _) some-empty (hits z img key t) ne)
 
     -- a reached slot with no slot for its key on its way is where the search for its key ends
-    pub alone-seek : (j : ℕ) → j < slots → lookup_key settings (keyAt z img t j) ≡ slotKey settings (slot_at z img t j) → Reached z img t j
+    pub alone-seek : (j : ℕ) → j < slots → lookup_key settings (keyAt z img t j) ≡ slot_key settings (slot_at z img t j) → Reached z img t j
         → Alone z img t j → seek_in z img (keyAt z img t j) t ≡ j
     unfolding seek_in
     alone-seek j hj l reached alone =
@@ -78,7 +78,7 @@ module _ (z : Shape) (img : List ℕ) where
 
     -- a full slot that stands for the key is met
     pub seek-full : (key : List ℕ) → Below slots (λ j. slot_at z img t j ≢ 0 → Reached z img t j) → (j : ℕ) → j < slots → slot_at z img t j ≢ 0
-        → slotKey settings (slot_at z img t j) ≡ lookup_key settings key → keyAt z img t j ≡ key → slot_at z img t (seek_in z img key t) ≢ 0
+        → slot_key settings (slot_at z img t j) ≡ lookup_key settings key → keyAt z img t j ≡ key → slot_at z img t (seek_in z img key t) ≢ 0
     unfolding seek_in
     seek-full key r j hj fj l k =
         seek_finds (slots_of z t) (slots-lawful im.framed t is) img _ some.0 (start-lt im.framed.valid _) some-empty (hits z img key t)

@@ -11,7 +11,7 @@ use Rattle.lists.specs.Quantify.{Below}
 use Rattle.layout.specs.declared.Shape.{Shape}
 use Rattle.probe.specs.Ring.{next, dist}
 use Rattle.probe.proofs.Ring.{next-lt, dist-self, dist-lt, dist-up, dist-wrap, dist-zero, dist-sub, dist-back, dist-inj, dist-further, dist-nearer}
-use Rattle.entries.specs.Keys.{start, slotKey}
+use Rattle.entries.specs.Keys.{start, slot_key}
 use Rattle.entries.specs.Live.{slot_at}
 use Rattle.search.specs.Search.{hits}
 use Rattle.search.specs.Rules.{keyAt, start_at, Reached, SomeEmpty}
@@ -135,7 +135,7 @@ module _ (z : Shape) (img : List ℕ) (t : ℕ) where
       pub on_the_way : dist slots from i ≤ dist slots from j
       pub others : Below slots (λ k. dist slots from k < dist slots from i → hits z img (keyAt z img t j) t (slot_at z img t k) ≡ false)
 
-    pub walking_starts : j < slots → lookup ≡ slotKey settings (slot_at z img t j) → from < slots → (i : ℕ) → i ≡ start settings lookup
+    pub walking_starts : j < slots → lookup ≡ slot_key settings (slot_at z img t j) → from < slots → (i : ℕ) → i ≡ start settings lookup
         → Walking i
     walking_starts hj is hs i e =
         let q : i ≡ from = e ∙ ap (start settings) is in

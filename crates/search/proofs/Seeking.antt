@@ -19,7 +19,7 @@ use Rattle.probe.specs.Ring.{next}
 use Rattle.probe.proofs.Seeking as probe
 use Rattle.entries.specs.declared.Entry.{Entry}
 use Rattle.entries.specs.declared.Stored.TheVariants.{Whole, Broken}
-use Rattle.entries.specs.Keys.{segment_of, lookup_key, start, slotKey, slot_chunk}
+use Rattle.entries.specs.Keys.{segment_of, lookup_key, start, slot_key, slot_chunk}
 use Rattle.entries.specs.Stored.{stored}
 use Rattle.entries.specs.Live.{slot_at}
 use Rattle.search.specs.declared.Sought.TheVariants.{Holds, Empty}
@@ -33,22 +33,22 @@ module _ (z : Shape) (img key : List ℕ) (t : ℕ) where
 
   -- ---- a hit, path by path
 
-  pub hits-differs : (v lookup : ℕ) → lookup ≡ lookup_key settings key → slotKey settings v ≢ lookup → hits z img key t v ≡ false
+  pub hits-differs : (v lookup : ℕ) → lookup ≡ lookup_key settings key → slot_key settings v ≢ lookup → hits z img key t v ≡ false
   unfolding hits
-  hits-differs v lookup e n = rw (ne_eqb (slotKey settings v) (lookup_key settings key) (λ q. n (q ∙ sym e)), hits)
+  hits-differs v lookup e n = rw (ne_eqb (slot_key settings v) (lookup_key settings key) (λ q. n (q ∙ sym e)), hits)
 
-  module _ (v lookup c : ℕ) (e : lookup ≡ lookup_key settings key) (k : slotKey settings v ≡ lookup) (ec : c ≡ slot_chunk settings v) where
+  module _ (v lookup c : ℕ) (e : lookup ≡ lookup_key settings key) (k : slot_key settings v ≡ lookup) (ec : c ≡ slot_chunk settings v) where
     pub hits-broken : stored z img t c ≡ Broken → same (cut img 0 0) key ≡ hits z img key t v
     unfolding hits
     hits-broken b =
         let b' : stored z img t (slot_chunk settings v) ≡ Broken = ap (stored z img t) (sym ec) ∙ b in
-        rw (eq-eqb (slotKey settings v) (lookup_key settings key) (k ∙ e), hits, b')
+        rw (eq-eqb (slot_key settings v) (lookup_key settings key) (k ∙ e), hits, b')
 
     pub hits-whole : (x : Entry) → stored z img t c ≡ Whole x → same (cut img x.keyAt x.keyLength) key ≡ hits z img key t v
     unfolding hits
     hits-whole x w =
         let w' : stored z img t (slot_chunk settings v) ≡ Whole x = ap (stored z img t) (sym ec) ∙ w in
-        rw (eq-eqb (slotKey settings v) (lookup_key settings key) (k ∙ e), hits, w')
+        rw (eq-eqb (slot_key settings v) (lookup_key settings key) (k ∙ e), hits, w')
 
   -- ---- the loop of `seek`, over the tier's slots as a table
 

@@ -10,7 +10,7 @@ use Rattle.chains.specs.Chains.{chain}
 use Rattle.probe.specs.Ring.{dist}
 use Rattle.entries.specs.declared.Stored.{Stored}
 use Rattle.entries.specs.declared.Stored.TheVariants.{Whole, Broken}
-use Rattle.entries.specs.Keys.{KeyFits, segment_of, lookup_key, start, slotKey, slot_rest, key_fits?}
+use Rattle.entries.specs.Keys.{KeyFits, segment_of, lookup_key, start, slot_key, slot_rest, key_fits?}
 use Rattle.entries.specs.Stored.{stored, key_of, chunks_for, ValueFits, value_fits?}
 use Rattle.entries.specs.Live.{slot_at, chunk_of, entry_at}
 
@@ -26,12 +26,12 @@ is_whole? Broken = no (λ x. x)
 -- the key's hash agrees with the segment s and with the lookup key of a slot that holds v
 pub record Hashed (st : Settings) (s v : ℕ) (key : List ℕ) : Type 0 where
   pub segment_agrees : segment_of st key ≡ s
-  pub lookup_agrees : lookup_key st key ≡ slotKey st v
+  pub lookup_agrees : lookup_key st key ≡ slot_key st v
 
 unfoldable pub hashed? : (st : Settings) (s v : ℕ) (key : List ℕ) → Dec (Hashed st s v key)
 hashed? st s v key =
     rule (λ h. h.segment_agrees) (ℕ_discrete (segment_of st key) s) λ a.
-    rule (λ h. h.lookup_agrees) (ℕ_discrete (lookup_key st key) (slotKey st v)) λ b.
+    rule (λ h. h.lookup_agrees) (ℕ_discrete (lookup_key st key) (slot_key st v)) λ b.
     yes (record { segment_agrees = a; lookup_agrees = b })
 
 module _ (z : Shape) (img : List ℕ) where
@@ -58,7 +58,7 @@ module _ (z : Shape) (img : List ℕ) where
 
   -- where the search for its lookup key starts
   abbrev pub start_at : ℕ → ℕ → ℕ
-  start_at t j = start settings (slotKey settings (slot_at z img t j))
+  start_at t j = start settings (slot_key settings (slot_at z img t j))
 
   -- no slot from its start slot up to itself, wrapping, is empty
   abbrev pub Reached : ℕ → ℕ → Type 0

@@ -12,7 +12,7 @@ use Rattle.search.specs.declared.Sought.{Sought}
 use Rattle.search.specs.declared.Sought.TheVariants.{Holds, Empty}
 use Rattle.search.specs.declared.Found.{Found}
 use Rattle.search.specs.declared.Found.TheVariants.{At, Absent}
-use Rattle.entries.specs.Keys.{segment_of, lookup_key, start, slotKey, slot_chunk}
+use Rattle.entries.specs.Keys.{segment_of, lookup_key, start, slot_key, slot_chunk}
 use Rattle.entries.specs.Stored.{stored, entry_of, key_of}
 use Rattle.entries.specs.Live.{slot_at}
 
@@ -21,7 +21,7 @@ abbrev pub slots_of : Shape → ℕ → Table (List ℕ)
 slots_of z t =
     record {
       size = z.settings.slots;
-      start = λ v. start z.settings (slotKey z.settings v);
+      start = λ v. start z.settings (slot_key z.settings v);
       get = λ img j. get z img (tier t (slot j));
       put = λ img j v. put z img (tier t (slot j)) v;
     }
@@ -31,7 +31,7 @@ module _ (z : Shape) (img key : List ℕ) where
 
   -- a full slot of tier t that holds v stands for the key: the lookup keys agree, and the whole stored key is the key
   unfoldable pub hits : ℕ → ℕ → Bool
-  hits t v = eqb (slotKey settings v) (lookup_key settings key) && same (key_of img (entry_of (stored z img t (slot_chunk settings v)))) key
+  hits t v = eqb (slot_key settings v) (lookup_key settings key) && same (key_of img (entry_of (stored z img t (slot_chunk settings v)))) key
 
   -- where the search in tier t ends: at a slot that stands for the key, or at an empty one
   unfoldable pub seek_in : ℕ → ℕ

@@ -1,4 +1,6 @@
 // The search for a key, and the rules of slots and entries.
+#![tactic(auto)]
+
 pub mod reach;
 pub mod rules;
 
@@ -13,14 +15,14 @@ use layout::Shape;
 use probe::Cursor;
 
 // Where the search for a key ends in one tier: at the slot that holds it, or at an empty slot.
-#[derive(Drop)]
+#[derive(Clone, Copy)]
 pub enum Sought {
     Holds(usize),
     Empty(usize),
 }
 
 // Where the search for a key ended: at the tier and slot that hold it, or at the empty slot of the last tier.
-#[derive(Drop)]
+#[derive(Clone, Copy)]
 pub enum Found {
     At(usize, usize),
     Absent(usize, usize),

@@ -8,7 +8,7 @@ ghost use Rattle.search.specs.Reach.{EndsFull, RunOn};
 use layout::Shape;
 
 // The full slots without a gap before slot `next`, wrapping.
-#[derive(Drop)]
+#[derive(Clone, Copy)]
 pub struct Run {
     pub next: usize,
     pub length: usize,

@@ -14,7 +14,7 @@ use layout::Shape;
 use probe::Cursor;
 
 // A full slot that meets what is asked of it, with the chunks that its entry covers, the first and how many; or one that does not.
-#[derive(Drop)]
+#[derive(Clone, Copy)]
 pub enum Slot {
     Fits(usize, usize),
     Broken,

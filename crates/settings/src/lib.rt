@@ -1,4 +1,6 @@
 // The settings block: bytes that say how an image is laid out.
+#![tactic(auto)]
+
 ghost use Rattle.std.specs.Prelude.{◌≡◌, ◌+◌, ◌*◌, ◌≤◌, length};
 ghost use Rattle.lists.specs.Decide.{Decides};
 ghost use Rattle.settings.specs.Versions.{head_size, least_fields, most_fields, block_size as versions_block_size, fields_of};
@@ -7,7 +9,7 @@ ghost use Rattle.settings.specs.Rules.{LookupSize, FreeListSize, InnerOffset, Ch
 ghost use Rattle.settings.specs.Block.{BlockFits, field as block_field, settings_of as block_settings_of, parse as block_parse};
 
 // The numbers in the order of the block.
-#[derive(Drop)]
+#[derive(Clone, Copy)]
 pub struct Settings {
     pub globalAt: usize,
     pub segments: usize,
@@ -29,7 +31,7 @@ pub struct Settings {
 }
 
 // What a block gives: its settings, or whether the block itself or a field of it is refused.
-#[derive(Drop)]
+#[derive(Clone, Copy)]
 pub enum Parsed {
     Accepted(Settings),
     BadBlock,

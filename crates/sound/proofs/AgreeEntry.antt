@@ -15,7 +15,7 @@ use Rattle.layout.proofs.Chunks.{chunk-at, chunk-rest, chunk_inside, chunk-add}
 use Rattle.entries.specs.declared.Entry.{Entry}
 use Rattle.entries.specs.declared.Stored.{Stored}
 use Rattle.entries.specs.declared.Stored.TheVariants.{Whole, Broken}
-use Rattle.entries.specs.Keys.{KeyFits, segment_of, lookup_key, slot_chunk, slotKey, slot_rest}
+use Rattle.entries.specs.Keys.{KeyFits, segment_of, lookup_key, slot_chunk, slot_key, slot_rest}
 use Rattle.entries.specs.Stored.{stored, entry_of, key_of, value_of, entry_size, chunks_for, ValueFits}
 use Rattle.entries.specs.Live.{slot_at, chunk_of, entry_at}
 use Rattle.entries.proofs.Whole.{WholeAt, whole-sound, whole-complete, key-before, stored-ext, whole-ext, key-ext, value-ext}
@@ -114,7 +114,7 @@ module _ (z : Shape) (img img' : List ℕ) (u : ℕ) where
               hashed =
                   record {
                     segment_agrees = ap (segment_of settings) key ∙ f.hashed.segment_agrees;
-                    lookup_agrees = ap (lookup_key settings) key ∙ f.hashed.lookup_agrees ∙ ap (slotKey settings) (sym e);
+                    lookup_agrees = ap (lookup_key settings) key ∙ f.hashed.lookup_agrees ∙ ap (slot_key settings) (sym e);
                   };
             };
         entry = ap entry_of st;

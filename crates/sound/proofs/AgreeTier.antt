@@ -15,7 +15,7 @@ use Rattle.lists.proofs.SameLists.{same-those, same_first, same_map}
 use Rattle.layout.specs.declared.Shape.{Shape}
 use Rattle.layout.specs.Places.{get, mark, count_place, low_place}
 use Rattle.entries.specs.declared.Live.{Live}
-use Rattle.entries.specs.Keys.{start, slot_chunk, slotKey}
+use Rattle.entries.specs.Keys.{start, slot_chunk, slot_key}
 use Rattle.entries.specs.Stored.{stored, entry_of}
 use Rattle.entries.specs.Live.{slot_at, entry_at, full_slots, live_at, live_in}
 use Rattle.entries.specs.Pairs.{Pair}
@@ -76,7 +76,7 @@ module _ (z : Shape) (img img' : List ℕ) (u : ℕ) where
           reached =
               λ j h ne k hk d e.
               f.reached j h (full-before j h ne) k hk
-              (subst (λ (v : ℕ). dist slots (start settings (slotKey settings v)) k ≤ dist slots (start settings (slotKey settings v)) j)
+              (subst (λ (v : ℕ). dist slots (start settings (slot_key settings v)) k ≤ dist slots (start settings (slot_key settings v)) j)
               (same j h) d)
               (sym (same k hk) ∙ e);
         }

@@ -1,1 +1,2 @@
 // What a sound image is: specs and laws alone.
+#![tactic(auto)]

@@ -1,4 +1,6 @@
 // The lines that the programs print, each made whole in a buffer of its own.
+#![tactic(auto)]
+
 mod line;
 
 ghost use Rattle.std.specs.Prelude.{◌<◌, ◌≤◌, length};

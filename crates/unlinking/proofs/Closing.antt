@@ -13,7 +13,7 @@ use Rattle.layout.specs.Places.{get, put, puts, Write, global, firstFree, usedTi
 use Rattle.layout.proofs.Places.{puts-append}
 use Rattle.chains.specs.Chains.{next_of, free_head, follow}
 use Rattle.chains.proofs.Segments.{segments-le}
-use Rattle.unlinking.specs.Unlinking.{before, later, nearer, comesAfter, moving, unlink}
+use Rattle.unlinking.specs.Unlinking.{before, later, nearer, comes_after, moving, unlink}
 use Rattle.unlinking.specs.Asking.{CanLower}
 
 module _ (z : Shape) (img : List ℕ) (first p : ℕ) where
@@ -22,7 +22,7 @@ module _ (z : Shape) (img : List ℕ) (first p : ℕ) where
   us = follow z img (tiers z) first
 
   pub closed_none : {img₁ : List ℕ} → first ≡ 0 → img₁ ≡ puts z img (nearer z img (follow z img (tiers z) first))
-      → img₁ ≡ puts z img (nearer z img (follow z img (tiers z) first) ++ comesAfter z img p (follow z img (tiers z) first))
+      → img₁ ≡ puts z img (nearer z img (follow z img (tiers z) first) ++ comes_after z img p (follow z img (tiers z) first))
   closed_none e q = q ∙ rw (e, follow-none (next_of z img) (tiers z))
 
   module _ (can : CanLower z img first) (ne : first ≢ 0) where
@@ -36,20 +36,20 @@ module _ (z : Shape) (img : List ℕ) (first p : ℕ) where
 
     pub closed_some : {img₁ img₂ : List ℕ} → img₁ ≡ puts z img (nearer z img (follow z img (tiers z) first))
         → img₂ ≡ put z img₁ (tier first (counter previous)) p
-        → img₂ ≡ puts z img (nearer z img (follow z img (tiers z) first) ++ comesAfter z img p (follow z img (tiers z) first))
+        → img₂ ≡ puts z img (nearer z img (follow z img (tiers z) first) ++ comes_after z img p (follow z img (tiers z) first))
     unfolding puts
     closed_some q r =
-        let one : comesAfter z img p us ≡ comesAfter z img p (first ∷ []) = rw some_first in
+        let one : comes_after z img p us ≡ comes_after z img p (first ∷ []) = rw some_first in
         r
         ∙ ap (λ (x : List ℕ). put z x (tier first (counter previous)) p) q
-        ∙ sym (puts-append z img (nearer z img us) (comesAfter z img p (first ∷ [])))
+        ∙ sym (puts-append z img (nearer z img us) (comes_after z img p (first ∷ [])))
         ∙ ap (λ ws. puts z img (nearer z img us ++ ws)) (sym one)
 
 -- ---- the four writes after it
 
 -- the writes for the tiers after one
 abbrev pub closing : (z : Shape) (img : List ℕ) → ℕ → List ℕ → List Write
-closing z img p ys = nearer z img ys ++ comesAfter z img p ys
+closing z img p ys = nearer z img ys ++ comes_after z img p ys
 
 pub unlink-parts : (z : Shape) (img : List ℕ) (t : ℕ) → let p = before z img t in let ys = later z img t in
     unlink z img t ≡ puts z (puts z img (closing z img p ys)) (moving z img p t)
@@ -57,7 +57,7 @@ unfolding unlink
 unlink-parts z img t =
     let p : ℕ = before z img t in
     let ys : List ℕ = later z img t in
-    ap (puts z img) (sym (append_assoc (nearer z img ys) (comesAfter z img p ys) (moving z img p t)))
+    ap (puts z img) (sym (append_assoc (nearer z img ys) (comes_after z img p ys) (moving z img p t)))
     ∙ puts-append z img (closing z img p ys) (moving z img p t)
 
 module _ (z : Shape) (img : List ℕ) (t : ℕ) where
@@ -73,7 +73,7 @@ module _ (z : Shape) (img : List ℕ) (t : ℕ) where
   prior-is e = ap (λ (x : Counters). x.previous) e
 
   pub unlinked : {next : ℕ} {c : Counters} {free used : ℕ} → Read next c free used → {i₀ i₁ i₂ i₃ i₄ : List ℕ}
-      → i₀ ≡ puts z img (nearer z img (follow z img (tiers z) next) ++ comesAfter z img c.previous (follow z img (tiers z) next))
+      → i₀ ≡ puts z img (nearer z img (follow z img (tiers z) next) ++ comes_after z img c.previous (follow z img (tiers z) next))
       → i₁ ≡ put z i₀ (next_place z c.previous) next
       → i₂ ≡ put z i₁ (next_place z t) free
       → i₃ ≡ put z i₂ (global firstFree) t

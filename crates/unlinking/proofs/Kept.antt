@@ -12,7 +12,7 @@ use Rattle.layout.specs.Places.{Counter, nextTier, next, previous, order, firstF
 use Rattle.layout.specs.Frame.{Image}
 use Rattle.layout.proofs.Places.{Spares, spare, spare-none, spares_both, get-puts-other, image-puts, kind, by_kind, shared_in, shared-never, shared-tiers}
 use Rattle.chains.specs.Chains.{next_of, free_head}
-use Rattle.unlinking.specs.Unlinking.{nearer, comesAfter, moving}
+use Rattle.unlinking.specs.Unlinking.{nearer, comes_after, moving}
 use Rattle.unlinking.proofs.Sparing.{nearer_spares, after_spares}
 use Rattle.unlinking.proofs.Closing.{closing}
 
@@ -43,7 +43,7 @@ module _ {z : Shape} {img : List ℕ} {t p : ℕ} {ys : List ℕ} (w : Taken z i
 
   pub record NotWritten (q : Place) : Type 0 where
     pub orders : Every ys (λ u. q ≢ tier u (counter order))
-    pub names : Spares z q (comesAfter z img p ys)
+    pub names : Spares z q (comes_after z img p ys)
     pub prior : q ≢ next_place z p
     pub own : q ≢ next_place z t
     pub head : q ≢ global firstFree
@@ -89,7 +89,7 @@ module _ {z : Shape} {img : List ℕ} {t p : ℕ} {ys : List ℕ} (w : Taken z i
 
   -- a counter that is no next, unless the writes for the tiers after t set it
   pub counter-kept : (f : Counter) → counter_no f ≢ 0 → (u : ℕ) → IsTier z u → Every ys (λ v. tier u (counter f) ≢ tier v (counter order))
-      → Spares z (tier u (counter f)) (comesAfter z img p ys) → get z after (tier u (counter f)) ≡ get z img (tier u (counter f))
+      → Spares z (tier u (counter f)) (comes_after z img p ys) → get z after (tier u (counter f)) ≡ get z img (tier u (counter f))
   counter-kept f nf u iu orders names =
       kept (tier u (counter f)) (iu, tt)
       (record {

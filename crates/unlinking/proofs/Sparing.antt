@@ -12,7 +12,7 @@ use Rattle.layout.specs.Tiers.{IsTier}
 use Rattle.layout.specs.Places.{get, puts, Place, tier, counter, previous, order, In}
 use Rattle.layout.specs.Frame.{Framed}
 use Rattle.layout.proofs.Places.{Spares, spare, spare-none, get-puts-other}
-use Rattle.unlinking.specs.Unlinking.{nearer, comesAfter}
+use Rattle.unlinking.specs.Unlinking.{nearer, comes_after}
 
 -- a counter of another tier is another place
 pub order-apart : {t u : ℕ} → t ≢ u → tier t (counter order) ≢ tier u (counter order)
@@ -29,7 +29,7 @@ module _ (z : Shape) (img : List ℕ) (q : Place) where
       (nearer_spares us (λ v m. is v (Memᴰ.tail m)) (λ v m. ne v (Memᴰ.tail m)))
 
   pub after_spares : (p : ℕ) (us : List ℕ) → Every us (IsTier z) → Every us (λ u. q ≢ tier u (counter previous))
-      → Spares z q (comesAfter z img p us)
+      → Spares z q (comes_after z img p us)
   after_spares p [] is ne = spare-none z q
   after_spares p (u ∷ us) is ne =
       spare z q (tier u (counter previous)) p [] (is u (Memᴰ.head refl), tt) (ne u (Memᴰ.head refl)) (spare-none z q)
@@ -41,7 +41,7 @@ module _ (z : Shape) (img : List ℕ) (q : Place) where
 
 -- a tier that is not the first of them names what it named
 pub name_spares : (z : Shape) (img : List ℕ) (p u : ℕ) (ys : List ℕ) → Every ys (IsTier z) → (0 < length ys → u ≢ get_or ys 0 0)
-    → Spares z (tier u (counter previous)) (comesAfter z img p ys)
+    → Spares z (tier u (counter previous)) (comes_after z img p ys)
 name_spares z img p u [] is ne = spare-none z (tier u (counter previous))
 name_spares z img p u (v ∷ us) is ne =
     spare z (tier u (counter previous)) (tier v (counter previous)) p [] (is v (Memᴰ.head refl), tt) (previous-apart (ne (omega arith)))

@@ -19,7 +19,7 @@ use Rattle.layout.proofs.Places.{Spares, spare, spare-none, spares_both, get-lt,
 use Rattle.chains.specs.Chains.{next_of, free_head}
 use Rattle.sound.proofs.AgreeTier.{SameTier, SameCounters}
 use Rattle.sound.proofs.Elsewhere.{tier-by-places}
-use Rattle.unlinking.specs.Unlinking.{one_less, nearer, comesAfter, moving}
+use Rattle.unlinking.specs.Unlinking.{one_less, nearer, comes_after, moving}
 use Rattle.unlinking.proofs.Sparing.{order-apart, nearer_spares, after_spares, name_spares}
 use Rattle.unlinking.proofs.Closing.{closing}
 use Rattle.unlinking.proofs.Kept.{Taken, closed, after, im, by-kinds, moving_spares, kept, next-kept, counter-kept}
@@ -82,7 +82,7 @@ module _ {z : Shape} {img : List ℕ} {t p : ℕ} {ys : List ℕ} (w : Taken z i
       let q : Place = tier u (counter order) in
       let s : Splits u ys = member-splits m in
       let v : ℕ = get z img q - 1 in
-      let names : List Write = comesAfter z img p ys in
+      let names : List Write = comes_after z img p ys in
       let ws : List Write = nearer z img s.after ++ names in
       let is : IsTier z u = w.later_tiers u m in
       let split : closing z img p ys ≡ nearer z img s.before ++ ((q ≔ v) ∷ ws) =

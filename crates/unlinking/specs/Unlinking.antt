@@ -23,9 +23,9 @@ module _ (z : Shape) (img : List ℕ) where
   nearer us = map one_less us
 
   -- the first of them comes after tier p
-  abbrev pub comesAfter : ℕ → List ℕ → List Write
-  comesAfter p [] = []
-  comesAfter p (u ∷ us) = tier u (counter previous) ≔ p ∷ []
+  abbrev pub comes_after : ℕ → List ℕ → List Write
+  comes_after p [] = []
+  comes_after p (u ∷ us) = tier u (counter previous) ≔ p ∷ []
 
   -- after tier p comes what came after t; t is the head of the free chain, and one tier less is used
   abbrev pub moving : ℕ → ℕ → List Write
@@ -36,7 +36,7 @@ module _ (z : Shape) (img : List ℕ) where
       ∷ []
 
   unfoldable pub unlink : ℕ → List ℕ
-  unlink t = puts z img (nearer (later t) ++ (comesAfter (before t) (later t) ++ moving (before t) t))
+  unlink t = puts z img (nearer (later t) ++ (comes_after (before t) (later t) ++ moving (before t) t))
 
   -- an extra tier without entries
   unfoldable pub is_empty_extra : ℕ → Bool

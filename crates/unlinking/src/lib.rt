@@ -1,9 +1,11 @@
 // A tier that an edit has emptied goes home.
+#![tactic(auto)]
+
 ghost use Rattle.std.specs.Prelude.{◌++◌, ◌≡◌};
 ghost use Rattle.layout.specs.Tiers.{tiers};
 ghost use Rattle.layout.specs.Places.{puts};
 ghost use Rattle.chains.specs.Chains.{follow};
-ghost use Rattle.unlinking.specs.Unlinking.{nearer, comesAfter, unlink as unlinking_unlink, unlink_empty as unlinking_unlink_empty};
+ghost use Rattle.unlinking.specs.Unlinking.{nearer, comes_after, unlink as unlinking_unlink, unlink_empty as unlinking_unlink_empty};
 ghost use Rattle.unlinking.specs.Asking.{CanLower, CanUnlink, CanUnlinkEmpty};
 
 use layout::{Counters, Shape};
@@ -27,7 +29,7 @@ fn close_up(z: Shape, img: &mut [u8], first: usize, p: u64)
     requires { CanLower z img.old first }
     ensures { img.new ≡ puts z img.old
         (nearer z img.old (follow z img.old (tiers z) first)
-        ++ comesAfter z img.old p (follow z img.old (tiers z) first)) }
+        ++ comes_after z img.old p (follow z img.old (tiers z) first)) }
 {
     lower_orders(z, img, first);
     if first == 0 {

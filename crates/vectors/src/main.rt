@@ -1,5 +1,7 @@
 // Prints what the crates below answer on cases whose answers are known from elsewhere. The file
 // stdout is not this program's own output: tests/regenerate-vectors makes it.
+#![tactic(auto)]
+
 mod blocks;
 mod cases;
 mod hashes;

@@ -21,7 +21,7 @@ use Rattle.chains.proofs.Segments.{segments-le, chain-cons, chain-end, extras-of
 use Rattle.chains.proofs.Tiers.{chain-tiers}
 use Rattle.entries.specs.declared.Stored.{Stored}
 use Rattle.entries.specs.declared.Stored.TheVariants.{Whole, Broken}
-use Rattle.entries.specs.Keys.{segment_of, lookup_key, slotKey}
+use Rattle.entries.specs.Keys.{segment_of, lookup_key, slot_key}
 use Rattle.entries.specs.Stored.{stored, entry_of, chunks_for}
 use Rattle.entries.specs.Live.{slot_at, chunk_of, entry_at}
 use Rattle.entries.proofs.Whole.{whole-sound, value-ends}
@@ -96,14 +96,14 @@ module _ (z : Shape) (img : List ℕ) where
       slot-hit : hits z img key t (slot_at z img t j) ≡ true → at_slot z img key t (slot_at z img t j) ≡ Same (entry_at z img t j)
       unfolding hits entry_at
       slot-hit e =
-          by-test (eqb (slotKey settings (slot_at z img t j)) (lookup_key settings key))
+          by-test (eqb (slot_key settings (slot_at z img t j)) (lookup_key settings key))
           (λ q. sym (slot_same z img key t (slot_at z img t j) _ refl (eqb-true _ _ q) _ refl refl reads (rw q at e)))
           (λ q. absurd (false≢true (rw q at e)))
 
       slot-miss : hits z img key t (slot_at z img t j) ≡ false → at_slot z img key t (slot_at z img t j) ≡ Other
       unfolding hits
       slot-miss e =
-          by-test (eqb (slotKey settings (slot_at z img t j)) (lookup_key settings key))
+          by-test (eqb (slot_key settings (slot_at z img t j)) (lookup_key settings key))
           (λ q. sym (slot-differs z img key t (slot_at z img t j) _ refl (eqb-true _ _ q) _ refl refl reads (rw q at e)))
           (λ q. sym (slot-other z img key t (slot_at z img t j) _ refl (eqb-false _ _ q)))
 

@@ -20,7 +20,7 @@ use Rattle.probe.specs.Ring.{next}
 use Rattle.chains.specs.Chains.{next_of, is_extra?}
 use Rattle.chains.proofs.Segments.{segments-le}
 use Rattle.entries.specs.declared.Entry.{Entry}
-use Rattle.entries.specs.Keys.{lookup_key, slotKey, slot_chunk}
+use Rattle.entries.specs.Keys.{lookup_key, slot_key, slot_chunk}
 use Rattle.entries.specs.Stored.{key_of}
 use Rattle.entries.specs.Live.{slot_at, chunk_of}
 use Rattle.entries.proofs.Hashes.{segment-lt}
@@ -69,7 +69,7 @@ module _ (z : Shape) (img key : List ℕ) where
   slot-keyed : (t v : ℕ) → SlotKeyed t (slot_chunk settings v) (at_slot z img key t v)
   unfolding at_slot tested
   slot-keyed t v =
-      by-test (eqb (slotKey settings v) (lookup_key settings key))
+      by-test (eqb (slot_key settings v) (lookup_key settings key))
       (λ q.
       rw (q, at_slot)
       (choose-by (entry_reads? z img t (slot_chunk settings v)) _ _ (SlotKeyed t (slot_chunk settings v)) (λ _. tt) (compared-keyed t (slot_chunk settings v))))

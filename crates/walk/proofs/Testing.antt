@@ -20,7 +20,7 @@ use Rattle.layout.proofs.Chunks.{chunks-inside}
 use Rattle.entries.specs.declared.Entry.{Entry}
 use Rattle.entries.specs.declared.Stored.{Stored}
 use Rattle.entries.specs.declared.Stored.TheVariants.{Whole, Broken}
-use Rattle.entries.specs.Keys.{longest_key, lookup_key, slotKey, slot_chunk}
+use Rattle.entries.specs.Keys.{longest_key, lookup_key, slot_key, slot_chunk}
 use Rattle.entries.specs.Stored.{up_to_chunks, stored, entry_of, key_of}
 use Rattle.entries.proofs.Whole.{WholeAt, stored-value-refused, stored-both-read, whole-sound, whole_chunk}
 use Rattle.search.specs.Rules.{IsWhole}
@@ -90,14 +90,14 @@ module _ (z : Shape) (img : List ℕ) (t c : ℕ) where
 module _ (z : Shape) (img key : List ℕ) (t v lookup : ℕ) (el : lookup ≡ lookup_key z.settings key) where
   open z use {settings}
 
-  pub slot-other : slotKey settings v ≢ lookup → Other ≡ at_slot z img key t v
+  pub slot-other : slot_key settings v ≢ lookup → Other ≡ at_slot z img key t v
   unfolding at_slot
-  slot-other n = sym (rw (ne_eqb (slotKey settings v) (lookup_key settings key) (λ q. n (q ∙ sym el)), at_slot))
+  slot-other n = sym (rw (ne_eqb (slot_key settings v) (lookup_key settings key) (λ q. n (q ∙ sym el)), at_slot))
 
-  module _ (k : slotKey settings v ≡ lookup) (c : ℕ) (ec : c ≡ slot_chunk settings v) where
+  module _ (k : slot_key settings v ≡ lookup) (c : ℕ) (ec : c ≡ slot_chunk settings v) where
     at-chunk : tested z img key t c (entry_reads? z img t c) ≡ at_slot z img key t v
     unfolding at_slot
-    at-chunk = sym (rw (eq-eqb (slotKey settings v) (lookup_key settings key) (k ∙ el), at_slot, ← ec))
+    at-chunk = sym (rw (eq-eqb (slot_key settings v) (lookup_key settings key) (k ∙ el), at_slot, ← ec))
 
     pub slot-broken : (EntryReads z img t c → ⊥) → slot.Broken ≡ at_slot z img key t v
     unfolding tested

@@ -10,7 +10,7 @@ use Rattle.layout.specs.Places.{chunk_at}
 use Rattle.chains.specs.Chains.{next_of, is_extra?}
 use Rattle.probe.specs.Ring.{next}
 use Rattle.entries.specs.declared.Entry.{Entry}
-use Rattle.entries.specs.Keys.{longest_key, segment_of, lookup_key, start, slotKey, slot_chunk}
+use Rattle.entries.specs.Keys.{longest_key, segment_of, lookup_key, start, slot_key, slot_chunk}
 use Rattle.entries.specs.Stored.{stored, entry_of, key_of, longest_value}
 use Rattle.entries.specs.Live.{slot_at}
 use Rattle.search.specs.Rules.{IsWhole, is_whole?}
@@ -66,7 +66,7 @@ module _ (z : Shape) (img key : List ℕ) where
 
   unfoldable pub at_slot : (t v : ℕ) → SlotMet
   at_slot t v =
-      elim (eqb (slotKey settings v) (lookup_key settings key)) [
+      elim (eqb (slot_key settings v) (lookup_key settings key)) [
         | true ↦ tested t (slot_chunk settings v) (entry_reads? z img t (slot_chunk settings v))
         | false ↦ Other
       ]

@@ -1,4 +1,6 @@
 // The walk of a quick lookup: a search that tests what it meets, in an image of which the frame alone is known.
+#![tactic(auto)]
+
 ghost use Rattle.std.specs.Prelude.{◌≡◌};
 ghost use Rattle.layout.specs.FramedTier.{FramedTier};
 ghost use Rattle.search.specs.Asking.{Seeks};
@@ -11,7 +13,7 @@ use leb128::Decoded;
 use probe::Cursor;
 
 // What a full slot is: another key's, the key's with its entry, or broken.
-#[derive(Drop)]
+#[derive(Clone, Copy)]
 pub enum SlotMet {
     Other,
     Same(Entry),
@@ -19,7 +21,7 @@ pub enum SlotMet {
 }
 
 // Where the walk ends in one tier: at the key's slot, with its entry; at an empty slot; at something broken.
-#[derive(Drop)]
+#[derive(Clone, Copy)]
 pub enum TierMet {
     Holds(usize, Entry),
     Empty(usize),
@@ -27,7 +29,7 @@ pub enum TierMet {
 }
 
 // Where it ends: at the key's tier and slot, with its entry; at the empty slot of the last tier; at something broken.
-#[derive(Drop)]
+#[derive(Clone, Copy)]
 pub enum WalkEnd {
     Found(usize, usize, Entry),
     Absent(usize, usize),

@@ -1,4 +1,6 @@
 // Numbers and bits in slices of bytes.
+#![tactic(auto)]
+
 ghost use Rattle.std.specs.Prelude.{◌≡◌, ◌+◌, ◌*◌, ◌^◌, ◌<◌, ◌≤◌, length};
 ghost use Rattle.words.specs.Numbers.{le, be, put_le};
 ghost use Rattle.words.specs.Bits.{bit as bits_bit, put_bit, put_bits as bits_put_bits, ones as bits_ones, BitRange};

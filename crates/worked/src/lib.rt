@@ -1,1 +1,2 @@
 // The worked cases of the papers, by computing the definitions. No code.
+#![tactic(auto)]

@@ -1,4 +1,6 @@
 // XXH64 with seed 0.
+#![tactic(auto)]
+
 ghost use Rattle.std.specs.Prelude.{◌≡◌, ◌+◌, ◌*◌, ◌/◌, ◌%◌, ◌<◌, ◌≤◌, length};
 ghost use Rattle.xxh64.specs.Hash.{mul64, rotl64, first_lanes, round_of, stripe_of, Done, merge_of, converge_of};
 ghost use Rattle.xxh64.specs.Hash.{mix8_of, mix4_of, mix1_of, tail_of, rest_of, avalanche_of, xxh64 as hash_xxh64};
@@ -14,7 +16,7 @@ const P4: u64 = 0x85EBCA77C2B2AE63;
 const P5: u64 = 0x27D4EB2F165667C5;
 
 // The four running lanes, how far the input is read, and the input's length.
-#[derive(Drop)]
+#[derive(Clone, Copy)]
 struct State {
     lanes: [u64; 4],
     at: usize,

@@ -3,16 +3,16 @@ use mathlib.Core.Path.{refl, sym, ◌∙◌}
 use borrow.Author.Rules.{rules}
 use Prim.Native.Nat.{◌-◌}
 use Rattle.layout.proofs.Bounds.{framed-bounded}
-use Rattle.placement.specs.Runs.{firstRun, fullBut, clearBut}
-use Rattle.placement.specs.Asking.{tiersFrom}
+use Rattle.placement.specs.Runs.{first_run, full_but, clear_but}
+use Rattle.placement.specs.Asking.{tiers_from}
 use Rattle.placement.proofs.FirstRun.{Seeking, seeking-ends, seeking-out, seeking-tier, seeking-found, seeking-turns}
 use Rattle.placement.proofs.runs.first_run.Statement.{statement}
 use Rattle.placement.proofs.runs.first_run.Tie as tie
 
 abbrev invariant-loop : tie.invariant-loop
 invariant-loop z img old passed n most t₀ k₀ t k =
-    Seeking z (fullBut z img old) (clearBut z img old) img n
-    (firstRun z (fullBut z img old) (clearBut z img old) (tiersFrom z img old.tier passed) n) most t k
+    Seeking z (full_but z img old) (clear_but z img old) img n
+    (first_run z (full_but z img old) (clear_but z img old) (tiers_from z img old.tier passed) n) most t k
 
 abbrev decreases-loop : tie.decreases-loop
 decreases-loop z img old passed n most t₀ k₀ t k = most - k

@@ -2,13 +2,13 @@ use native.Mathlib.Omega.{arith}
 use mathlib.Core.Path.{sym, ◌∙◌}
 use borrow.Author.Tests.{not-true, not-false}
 use Prim.Native.Nat.{◌-◌}
-use Rattle.placement.specs.Runs.{fullBut, clearBut}
+use Rattle.placement.specs.Runs.{full_but, clear_but}
 use Rattle.placement.proofs.LowestRun.{Running, running-starts, running-ends, running-broken, running-turns, running-found}
 use Rattle.placement.proofs.runs.lowest_run.Statement.{statement}
 use Rattle.placement.proofs.runs.lowest_run.Tie as tie
 
 abbrev invariant-loop : tie.invariant-loop
-invariant-loop z img old t n have₀ i₀ have i = Running z (fullBut z img old) (clearBut z img old) t n have i
+invariant-loop z img old t n have₀ i₀ have i = Running z (full_but z img old) (clear_but z img old) t n have i
 
 abbrev decreases-loop : tie.decreases-loop
 decreases-loop z img old t n have₀ i₀ have i = z.settings.chunks - i

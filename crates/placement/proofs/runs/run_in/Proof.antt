@@ -1,7 +1,7 @@
 use native.Mathlib.Omega.{arith}
 use mathlib.Core.Path.{◌∙◌}
 use borrow.Author.Rules.{rules}
-use Rattle.placement.specs.Runs.{fullBut, clearBut}
+use Rattle.placement.specs.Runs.{full_but, clear_but}
 use Rattle.placement.proofs.OldEntry.{full_but-le}
 use Rattle.placement.proofs.FirstRun.{run-full, run-lowest}
 use Rattle.placement.proofs.runs.run_in.Statement.{statement}
@@ -18,8 +18,8 @@ add-if1 c =
 returns : tie.Need-returns
 returns c =
     let s = c.before.before.before.before in
-    run-full s.args.z (fullBut s.args.z s.args.img.now s.args.old)
-    (clearBut s.args.z s.args.img.now s.args.old) s.args.t s.args.n
+    run-full s.args.z (full_but s.args.z s.args.img.now s.args.old)
+    (clear_but s.args.z s.args.img.now s.args.old) s.args.t s.args.n
     (omega (arith, c.before.before.full-but.ensures, c.if1.true))
 
 lowest-run-requires : tie.Need-lowest-run-requires
@@ -29,8 +29,8 @@ returns-2 : tie.Need-returns-2
 returns-2 c =
     let s = c.before.before.before.before.before in
     c.lowest-run.ensures ∙
-    run-lowest s.args.z (fullBut s.args.z s.args.img.now s.args.old)
-    (clearBut s.args.z s.args.img.now s.args.old) s.args.t s.args.n
+    run-lowest s.args.z (full_but s.args.z s.args.img.now s.args.old)
+    (clear_but s.args.z s.args.img.now s.args.old) s.args.t s.args.n
     (omega (arith, c.before.before.before.full-but.ensures, c.before.if1.false))
 
 pub run-in-spec : {M : Type 1} → statement M
