@@ -7,7 +7,7 @@ use mathlib.Core.Option.{Option, none, some}
 use native.Mathlib.Omega.{arith}
 use lib.ListN.{length, take, drop}
 use denote.Ref.{Bor}
-use borrow.Rule.Slice.PartAt.{sl_part}
+use borrow.Rule.Slice.PartAt.{sl_partˢ}
 use Rattle.words.specs.Bytes.{Bytes}
 use Rattle.layout.specs.declared.Shape.{Shape}
 use Rattle.settings.specs.Rules.{largest}
@@ -97,33 +97,30 @@ unfolding lookup
 record_within block img key r er b p e = within_by block img key b (asked block img (a_key key)) refl p (sym er ∙ e)
 
 -- the part of a lent slice from place `at` up to place at + n
-part_of : (lent : Bor (List ℕ)) (at n γ : ℕ) → PartOf lent at n (sl_part lent (at + lent.ref_ptr.1) at (at + n) γ)
-part_of lent at n γ =
+part_of : (lent : Bor (List ℕ)) (at n : ℕ) → PartOf lent at n (sl_partˢ lent (at + lent.ref_ptr.1) at (at + n))
+part_of lent at n =
     let q : at + n - at ≡ n = omega arith in
     record { memory = refl; start = omega arith; bytes = ap (λ (k : ℕ). take k (drop at lent.now)) q }
 
 module _ (block : List ℕ) (img : Bor (List ℕ)) (key : List ℕ) (r : Located) (er : r ≡ lookup block img.now key) where
   -- the part that the code cuts off is the record of what it found
-  record_is : (l : Located) → r ≡ l → (γ : ℕ) → RecordOf img (lookup block img.now key)
-      (sl_part img (record_at l + img.ref_ptr.1) (record_at l) (record_at l + record_length l) γ)
-  record_is l e γ =
-      subst (λ (x : Located). RecordOf img x (sl_part img (record_at l + img.ref_ptr.1) (record_at l) (record_at l + record_length l) γ)) (sym e ∙ er)
-      (part_of img (record_at l) (record_length l) γ)
+  record_is : (l : Located) → r ≡ l → RecordOf img (lookup block img.now key)
+      (sl_partˢ img (record_at l + img.ref_ptr.1) (record_at l) (record_at l + record_length l))
+  record_is l e =
+      subst (λ (x : Located). RecordOf img x (sl_partˢ img (record_at l + img.ref_ptr.1) (record_at l) (record_at l + record_length l))) (sym e ∙ er)
+      (part_of img (record_at l) (record_length l))
 
-  pub record_found : (p : RecordPlace) → r ≡ located.Found p → (γ : ℕ)
-      → RecordOf img (lookup block img.now key) (sl_part img (p.offset + img.ref_ptr.1) p.offset (p.offset + p.length) γ)
+  pub record_found : (p : RecordPlace) → r ≡ located.Found p → RecordOf img (lookup block img.now key) (sl_partˢ img (p.offset + img.ref_ptr.1) p.offset (p.offset + p.length))
   unfolding record_at record_length
-  record_found p e γ = record_is (located.Found p) e γ
+  record_found p e = record_is (located.Found p) e
 
-  pub record_absent : (end : SearchEnd) → r ≡ located.Absent end → (γ : ℕ)
-      → RecordOf img (lookup block img.now key) (sl_part img (0 + img.ref_ptr.1) 0 0 γ)
+  pub record_absent : (end : SearchEnd) → r ≡ located.Absent end → RecordOf img (lookup block img.now key) (sl_partˢ img (0 + img.ref_ptr.1) 0 0)
   unfolding record_at record_length
-  record_absent end e γ = record_is (located.Absent end) e γ
+  record_absent end e = record_is (located.Absent end) e
 
-  pub record_refused : (s : Stage) → r ≡ located.Refused s → (γ : ℕ)
-      → RecordOf img (lookup block img.now key) (sl_part img (0 + img.ref_ptr.1) 0 0 γ)
+  pub record_refused : (s : Stage) → r ≡ located.Refused s → RecordOf img (lookup block img.now key) (sl_partˢ img (0 + img.ref_ptr.1) 0 0)
   unfolding record_at record_length
-  record_refused s e γ = record_is (located.Refused s) e γ
+  record_refused s e = record_is (located.Refused s) e
 
 -- ---- removal
 

@@ -111,9 +111,9 @@ module _ {z : Shape} {img key value : List ℕ} {n : ℕ} {p : EntryPlace} (w : 
 
   -- ---- no tier takes it, and none is free
 
-  pub no_room : (head : ℕ) → p.run ≡ Nowhere → head ≡ free_head z img → head ≡ 0 → Stores Tight z img key value false img
+  pub no_room_lem : (head : ℕ) → p.run ≡ Nowhere → head ≡ free_head z img → head ≡ 0 → Stores Tight z img key value false img
   unfolding no_room
-  no_room head f eh e0 = (rw (← run_is, f) (eq-eqb (free_head z img₁) 0 (without-head z img sound key ∙ sym eh ∙ e0)), refl)
+  no_room_lem head f eh e0 = (rw (← run_is, f) (eq-eqb (free_head z img₁) 0 (without-head z img sound key ∙ sym eh ∙ e0)), refl)
 
   -- ---- a tier of the chain takes it
 

@@ -70,18 +70,18 @@ module _ (z : Shape) (full : ℕ → ℕ) (isClear : ℕ → ℕ → Bool) where
       (λ e. taken (lowest_run z full isClear t n) t n u c refl (leb-true _ _ e) (rw (e, run_in) at h))
       (λ e. let y : Nowhere ≡ At u c = rw (e, run_in) at h in absurd (let y : ◌≡◌ {A = ℕ} 0 1 = cc in omega arith))
 
-  first_run : (r : Run) (u : ℕ) (ts : List ℕ) (n t c : ℕ) → run_in z full isClear u n ≡ r
+  first_run_lem : (r : Run) (u : ℕ) (ts : List ℕ) (n t c : ℕ) → run_in z full isClear u n ≡ r
       → (first_run z full isClear ts n ≡ At t c → Memᴰ t ts × Takes t c n)
       → elim r [ At v d ↦ At v d | Nowhere ↦ first_run z full isClear ts n ] ≡ At t c → Memᴰ t (u ∷ ts) × Takes t c n
-  first_run (At v d) u ts n t c e f h =
+  first_run_lem (At v d) u ts n t c e f h =
       let q : (t ≡ u) × Takes u c n = run_in_found u n t c (e ∙ h) in
       (mathlib.Core.List.Memᴰ.head q.0, rw q.0 q.1)
-  first_run Nowhere u ts n t c e f h = let q : Memᴰ t ts × Takes t c n = f h in (mathlib.Core.List.Memᴰ.tail q.0, q.1)
+  first_run_lem Nowhere u ts n t c e f h = let q : Memᴰ t ts × Takes t c n = f h in (mathlib.Core.List.Memᴰ.tail q.0, q.1)
 
   found : (ts : List ℕ) (n t c : ℕ) → first_run z full isClear ts n ≡ At t c → Memᴰ t ts × Takes t c n
   unfolding first_run
   found [] n t c h = absurd (let y : ◌≡◌ {A = ℕ} 0 1 = cc in omega arith)
-  found (u ∷ ts) n t c h = first_run (run_in z full isClear u n) u ts n t c refl (found ts n t c) h
+  found (u ∷ ts) n t c h = first_run_lem (run_in z full isClear u n) u ts n t c refl (found ts n t c) h
 
 pub run-found : (z : Shape) (full : ℕ → ℕ) (isClear : ℕ → ℕ → Bool) (ts : List ℕ) (n t c : ℕ) → first_run z full isClear ts n ≡ At t c
     → Memᴰ t ts × (full t + 2 ≤ z.settings.slots) × (c + n ≤ z.settings.chunks)

@@ -1,6 +1,10 @@
 use native.Mathlib.Omega.{arith}
 use mathlib.Core.Logic.{⊎_elim}
 use Rattle.once.proofs.share_out.Goals as goal
+use Rattle.once.proofs.share_out.Goals.{then-n-le-IN_A_SMALL_PASS, else-n-le-IN_A_SMALL_PASS}
 
 pub overflow_add-result : goal.overflow_add-result
-overflow_add-result c = ⊎_elim (λ w. omega (arith, w.1, c.pass_bits-bits.ensures)) (λ w. omega (arith, w.1, c.pass_bits-bits.ensures)) c.if-n-le-IN_A_SMALL_PASS.branch
+overflow_add-result c = elim c.if-n-le-IN_A_SMALL_PASS.branch [
+  | then-n-le-IN_A_SMALL_PASS w ↦ omega (arith, w.place-is, c.pass_bits-bits.ensures)
+  | else-n-le-IN_A_SMALL_PASS w ↦ omega (arith, w.place-is, c.pass_bits-bits.ensures)
+]

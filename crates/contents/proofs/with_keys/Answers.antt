@@ -1,0 +1,47 @@
+use Rattle.lists.proofs.Decides.{decided_true, decided-false}
+use Rattle.search.specs.Rules.{KeysOnce}
+use Rattle.contents.proofs.Chains.{broken-says, chunks-read, fit-read, once-says, twice-says}
+use Rattle.contents.proofs.with_keys.Goals as goal
+
+pub keys_fit-requires : goal.keys_fit-requires
+keys_fit-requires c =
+    record {
+      reads = chunks-read c.args.z c.args.img.now c.args.s c.args.sum c.requires.says c.requires.fitting c.in-BadChunks.is;
+      alone =
+          c.requires.alone;
+    }
+
+pub later_entries-later-requires : goal.later_entries-later-requires
+later_entries-later-requires c = c.requires.fitting
+
+pub keys_fit-requires-in-Fit : goal.keys_fit-requires-in-Fit
+keys_fit-requires-in-Fit c =
+    record {
+      reads = fit-read c.args.z c.args.img.now c.args.s c.args.sum c.requires.says c.requires.fitting c.in-Fit.entries c.in-Fit.marked
+          c.in-Fit.is;
+      alone = c.requires.alone;
+    }
+
+pub returns-in-BadEntries : goal.returns-in-BadEntries
+returns-in-BadEntries c = broken-says c.args.z c.args.img.now c.args.s c.args.sum c.requires.says c.in-BadEntries.is
+
+pub returns-then-keys_fit : goal.returns-then-keys_fit
+returns-then-keys_fit c =
+    once-says c.args.z c.args.img.now c.args.s c.args.sum c.requires.says
+    (decided_true {P = KeysOnce c.args.z c.args.img.now c.args.s} c.keys_fit.result c.keys_fit.ensures c.if-keys_fit.true) _
+    c.in-BadChunks.is
+
+pub returns-else-keys_fit : goal.returns-else-keys_fit
+returns-else-keys_fit c =
+    twice-says c.args.z c.args.img.now c.args.s (decided-false {P = KeysOnce c.args.z c.args.img.now c.args.s} c.keys_fit.result
+    c.keys_fit.ensures c.if-keys_fit.false)
+
+pub returns-then-keys_fit-2 : goal.returns-then-keys_fit-2
+returns-then-keys_fit-2 c =
+    once-says c.args.z c.args.img.now c.args.s c.args.sum c.requires.says
+    (decided_true {P = KeysOnce c.args.z c.args.img.now c.args.s} c.keys_fit-in-Fit.result c.keys_fit-in-Fit.ensures c.if-keys_fit-2.true) _ c.in-Fit.is
+
+pub returns-else-keys_fit-2 : goal.returns-else-keys_fit-2
+returns-else-keys_fit-2 c =
+    twice-says c.args.z c.args.img.now c.args.s (decided-false {P = KeysOnce c.args.z c.args.img.now c.args.s} c.keys_fit-in-Fit.result
+    c.keys_fit-in-Fit.ensures c.if-keys_fit-2.false)

@@ -1,0 +1,31 @@
+use native.Mathlib.Omega.{arith}
+use mathlib.Core.Path.{sym, ◌∙◌}
+use mathlib.Core.Logic.{⊎_elim}
+use Prim.Native.Nat.{◌-◌}
+use Rattle.counters.proofs.FullCount.{counted-starts, counted-few, counted-full, counted-empty, counted-ends}
+use Rattle.counters.proofs.full_slots.Goals as goal
+use Rattle.counters.proofs.full_slots.Goals.{then-slot-ne0, else-slot-ne0}
+
+pub loop-j-init : goal.loop-j-init
+loop-j-init c = counted-starts _ _ _
+
+pub overflow_add-n : goal.overflow_add-n
+overflow_add-n c =
+    omega (
+      arith,
+      counted-few c.args.z c.args.img.now c.args.t c.loop-j.invariant,
+      c.loop-j-test.true,
+      c.requires.0.valid.slots.1.1,
+    )
+
+pub loop-j-preserved : goal.loop-j-preserved
+loop-j-preserved c =
+    elim c.if-slot-ne0.branch [
+      | then-slot-ne0 v ↦
+          counted-full c.args.z c.args.img.now c.args.t c.loop-j.invariant (omega arith) (λ e. v.if-slot-ne0.true (c.slot.ensures ∙ e)) v.n-is
+      | else-slot-ne0 v ↦
+          counted-empty c.args.z c.args.img.now c.args.t c.loop-j.invariant (omega arith) (sym c.slot.ensures ∙ v.if-slot-ne0.false) v.n-is
+    ]
+
+pub returns : goal.returns
+returns c = counted-ends c.args.z c.args.img.now c.args.t c.loop-j.invariant (omega arith)

@@ -1,0 +1,25 @@
+use native.Mathlib.Omega.{arith}
+use Rattle.edit.proofs.Storage.{walk-asks}
+use Rattle.edit.proofs.Choosing.{walks, spot-writes, spot-stored, tight-stored}
+use Rattle.edit.proofs.store.Goals as goal
+
+pub walk_chain-w-requires : goal.walk_chain-w-requires
+walk_chain-w-requires c = walk-asks c.requires c.chunks_for-n.ensures
+
+pub store_tight-requires : goal.store_tight-requires
+store_tight-requires c = walks c.requires c.chunks_for-n.ensures c.walk_chain-w.ensures
+
+pub returns-then-not-on_the_spot : goal.returns-then-not-on_the_spot
+returns-then-not-on_the_spot c =
+    tight-stored (walks c.requires c.chunks_for-n.ensures c.walk_chain-w.ensures) c.args.policy c.on_the_spot.ensures c.if-not-on_the_spot.true
+    c.store_tight.result _ c.store_tight.ensures
+
+pub write_from-requires : goal.write_from-requires
+write_from-requires c =
+    spot-writes (walks c.requires c.chunks_for-n.ensures c.walk_chain-w.ensures) c.args.policy c.on_the_spot.ensures c.if-not-on_the_spot.false
+    (λ i. omega (arith, c.shared_slice_known-1.given i)) (λ i. omega (arith, c.shared_slice_known-2-1.given i))
+
+pub returns : goal.returns
+returns c =
+    spot-stored (walks c.requires c.chunks_for-n.ensures c.walk_chain-w.ensures) c.args.policy c.on_the_spot.ensures c.if-not-on_the_spot.false
+    c.write_from.ensures
