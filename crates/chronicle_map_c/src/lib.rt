@@ -143,8 +143,8 @@ pub extern "C" fn chronicle_map_quick_lookup(
 // Stores a record under a key, or replaces the one that is there: on the spot where the new entry takes as many chunks.
 #[unsafe(no_mangle)]
 pub extern "C" fn chronicle_map_store(block: &[u8], img: &mut [u8], key: &[u8], value: &[u8]) -> u32
-    ensures value { result ≡ store_answer OnTheSpot block.now img.old key.now value.now }
-    ensures img_after { img.new ≡ store_leaves OnTheSpot block.now img.old key.now value.now }
+    ensures number { result ≡ store_answer OnTheSpot block.now img.old key.now value.now }
+    ensures image { img.new ≡ store_leaves OnTheSpot block.now img.old key.now value.now }
 {
     answer_number(chronicle_map::store(block, img, key, value))
 }
@@ -157,8 +157,8 @@ pub extern "C" fn chronicle_map_store_tight(
     key: &[u8],
     value: &[u8],
 ) -> u32
-    ensures value { result ≡ store_answer Tight block.now img.old key.now value.now }
-    ensures img_after { img.new ≡ store_leaves Tight block.now img.old key.now value.now }
+    ensures number { result ≡ store_answer Tight block.now img.old key.now value.now }
+    ensures image { img.new ≡ store_leaves Tight block.now img.old key.now value.now }
 {
     answer_number(chronicle_map::store_tight(block, img, key, value))
 }
@@ -166,8 +166,8 @@ pub extern "C" fn chronicle_map_store_tight(
 // Removes the entry of a key.
 #[unsafe(no_mangle)]
 pub extern "C" fn chronicle_map_remove(block: &[u8], img: &mut [u8], key: &[u8]) -> u32
-    ensures value { result ≡ remove_answer block.now img.old key.now }
-    ensures img_after { img.new ≡ remove_leaves block.now img.old key.now }
+    ensures number { result ≡ remove_answer block.now img.old key.now }
+    ensures image { img.new ≡ remove_leaves block.now img.old key.now }
 {
     answer_number(chronicle_map::remove(block, img, key))
 }
@@ -175,8 +175,8 @@ pub extern "C" fn chronicle_map_remove(block: &[u8], img: &mut [u8], key: &[u8])
 // Adds one bulk after the last; its tiers become the first free ones.
 #[unsafe(no_mangle)]
 pub extern "C" fn chronicle_map_grow(block: &[u8], img: &mut [u8]) -> u32
-    ensures value { result ≡ grow_answer block.now img.old }
-    ensures img_after { img.new ≡ grow_leaves block.now img.old }
+    ensures number { result ≡ grow_answer block.now img.old }
+    ensures image { img.new ≡ grow_leaves block.now img.old }
 {
     answer_number(chronicle_map::grow(block, img))
 }
@@ -239,8 +239,8 @@ pub extern "C" fn chronicle_map_set_delay(
     b: u32,
     delay: i32,
 ) -> u32
-    ensures value { result ≡ set_delay_answer block.now img.old a b delay }
-    ensures img_after { img.new ≡ set_delay_leaves block.now img.old a b delay }
+    ensures number { result ≡ set_delay_answer block.now img.old a b delay }
+    ensures image { img.new ≡ set_delay_leaves block.now img.old a b delay }
 {
     set_number(pairs::set_delay(block, img, a, b, delay))
 }

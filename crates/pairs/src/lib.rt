@@ -84,7 +84,7 @@ fn pair_key(a: u32, b: u32) -> [u8; 2]
 fn in_order(a: u32, b: u32, d: i32) -> i32
     requires { d ≢ most_negative }
     ensures value { result ≡ pairs_in_order a b d }
-    ensures result_nonzero { result ≢ most_negative }
+    ensures is_delay { result ≢ most_negative }
 {
     let opposite = 0 - d;
     if a < b {
