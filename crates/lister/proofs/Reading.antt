@@ -2,7 +2,7 @@
 use Prim.Native.Nat.{ℕ, ◌+◌, ◌-◌, ◌≤◌, ◌<◌}
 use mathlib.Core.Bool.{Bool, true, false}
 use mathlib.Core.List.{List}
-use mathlib.Core.Path.{◌≡◌, refl, ap, sym, ◌∙◌, subst}
+use mathlib.Core.Path.{◌≡◌, refl, ap, sym, ◌∙◌}
 use mathlib.Core.Logic.{⊎_elim, ◌≢◌}
 use native.Mathlib.Omega.{arith}
 use native.Mathlib.Decide.{dec_lt}
@@ -15,14 +15,15 @@ use Rattle.lists.proofs.Decides.{choose-by, choose_no, choose_yes}
 use Rattle.words.specs.Numbers.{be}
 use Rattle.settings.specs.declared.Parsed.{Parsed}
 use Rattle.settings.specs.declared.Parsed.TheVariants.{Accepted, BadBlock, BadField}
+use Rattle.settings.specs.declared.Settings.{Settings}
 use Rattle.settings.specs.Versions.{most_fields, fields_of, head_size, block_size}
 use Rattle.settings.specs.Block.{version, parse}
 use Rattle.settings.proofs.Versions.{fields-most}
 use Rattle.image.specs.declared.Stage.{Stage}
-use Rattle.image.specs.declared.Stage.TheVariants.{Block, Frame}
+use Rattle.image.specs.declared.Stage.TheVariants.{Block, Field, Frame}
 use Rattle.lister.specs.declared.input.Input.{Input}
 use Rattle.lister.specs.declared.input.Input.TheVariants.{More, Whole, Refused}
-use Rattle.lister.specs.Input.{image_at, limit, longest, Ends, missing, needed, reading_image, reading_length, from_parsed, reading_block, reading_fields, reading, Decided, HasRead}
+use Rattle.lister.specs.Input.{image_at, limit, longest, missing, needed, reading_image, reading_length, from_parsed, reading_block, reading_fields, reading, Decided, HasRead}
 
 -- ---- by cases
 
@@ -44,40 +45,61 @@ module _ (end n : ℕ) (read : List ℕ) (ended : Bool) where
   unfolding reading_image
   image-short h = rw (le-ltb limit n h, reading_image)
 
-module _ {end at : ℕ} (ends : Ends end at) (read : List ℕ) (ended : Bool) where
-  pub length-short : length read < at → reading_length end read ended ≡ missing Frame at ended
-  unfolding reading_length
-  length-short =
-      subst (λ (x : ℕ). length read < x → reading_length end read ended ≡ missing Frame x ended) (sym ends.starts)
-      (needed-short Frame (image_at end) read ended _)
-
-  pub length-next : {n : ℕ} → at ≤ length read → n ≡ be read end 4 → reading_length end read ended ≡ reading_image end n read ended
-  unfolding reading_length
-  length-next {n} h e = rw e (needed-there _ (image_at end) read ended _ (omega (arith, ends.starts)))
-
-  pub image-next : {n : ℕ} → n ≤ limit → reading_image end n read ended ≡ needed Frame (at + n) read ended (Whole end n)
-  image-next {n} h =
-      subst (λ (x : ℕ). reading_image end n read ended ≡ needed Frame (x + n) read ended (Whole end n)) (sym ends.starts)
-      (image-short end n read ended h)
+-- ---- the same in the form that the check's own search applies, at `reading_length` and `reading_block`
 
 module _ (end : ℕ) (read : List ℕ) (ended : Bool) where
-  pub block-next : {p : Parsed} → end ≤ length read → p ≡ parse (take end read)
-      → reading_block end read ended ≡ from_parsed p (reading_length end read ended)
+  pub length-missing : length read < image_at end → reading_length end read ended ≡ missing Frame (image_at end) ended
+  unfolding reading_length
+  length-missing h = needed-short Frame (image_at end) read ended _ h
+
+  pub length-there : image_at end ≤ length read → reading_length end read ended ≡ reading_image end (be read end 4) read ended
+  unfolding reading_length
+  length-there h = needed-there Frame (image_at end) read ended _ h
+
+  pub block-missing : length read < end → reading_block end read ended ≡ missing Block end ended
   unfolding reading_block
-  block-next h e = rw e (needed-there _ end read ended _ h)
+  block-missing h = needed-short Block end read ended _ h
+
+  pub block-there : end ≤ length read → reading_block end read ended ≡ from_parsed (parse (take end read)) (reading_length end read ended)
+  unfolding reading_block
+  block-there h = needed-there Block end read ended _ h
+
+module _ (end n : ℕ) (read : List ℕ) (ended : Bool) where
+  pub image-missing : n ≤ limit → length read < image_at end + n → reading_image end n read ended ≡ missing Frame (image_at end + n) ended
+  image-missing h l = rw (image-short end n read ended h) (needed-short Frame (image_at end + n) read ended _ l)
+
+  pub image-there : n ≤ limit → image_at end + n ≤ length read → reading_image end n read ended ≡ Whole end n
+  image-there h l = rw (image-short end n read ended h) (needed-there Frame (image_at end + n) read ended _ l)
+
+module _ (p : Parsed) (next : Input) where
+  pub parsed-bad_block : p ≡ BadBlock → from_parsed p next ≡ Refused Block
+  unfolding from_parsed
+  parsed-bad_block e = rw e
+
+  pub parsed-bad_field : p ≡ BadField → from_parsed p next ≡ Refused Field
+  unfolding from_parsed
+  parsed-bad_field e = rw e
+
+  pub parsed-accepted : (st : Settings) → p ≡ Accepted st → from_parsed p next ≡ next
+  unfolding from_parsed
+  parsed-accepted st e = rw e
+
+pub ruleset length_steps = (length-missing, length-there, image-long, image-missing, image-there)
+
+pub ruleset block_steps = (block-missing, block-there, parsed-bad_block, parsed-bad_field, parsed-accepted)
 
 module _ (read : List ℕ) (ended : Bool) {fields : ℕ} (there : head_size ≤ length read) (e : fields ≡ fields_of (version read)) where
-  next : reading read ended ≡ reading_fields fields read ended
+  fields-next : reading read ended ≡ reading_fields fields read ended
   unfolding reading
-  next = rw e (needed-there _ head_size read ended _ there)
+  fields-next = rw e (needed-there _ head_size read ended _ there)
 
   pub version-unknown : fields ≡ 0 → Refused Block ≡ reading read ended
   unfolding reading_fields
-  version-unknown z = sym (next ∙ choose_no (dec_lt 0 fields) _ _ (λ (h : 0 < fields). omega arith))
+  version-unknown z = sym (fields-next ∙ choose_no (dec_lt 0 fields) _ _ (λ (h : 0 < fields). omega arith))
 
   pub version-known : {end : ℕ} → end ≡ block_size fields → fields ≢ 0 → reading_block end read ended ≡ reading read ended
   unfolding reading_fields
-  version-known q n = ap (λ (x : ℕ). reading_block x read ended) q ∙ sym (next ∙ choose_yes (dec_lt 0 fields) _ _ (omega arith))
+  version-known q n = ap (λ (x : ℕ). reading_block x read ended) q ∙ sym (fields-next ∙ choose_yes (dec_lt 0 fields) _ _ (omega arith))
 
 -- ---- it asks for more than it has, within the longest input, and never after the end; a whole image is within what was read
 

@@ -1,10 +1,11 @@
 // The input: the settings block, the image's length in four bytes, and the image.
-ghost use Rattle.std.specs.Prelude.{◌≡◌, length};
+ghost use Rattle.std.specs.Prelude.{◌≡◌, ◌≤◌, length, IfOk, OnErr};
 ghost use Rattle.lister.specs.Input.{missing as input_missing, Ends, reading_length as input_reading_length, reading_block as input_reading_block, reading as input_reading, longest, HasRead};
 
 use image::Stage;
-use libc::STDIN_FILENO;
 use settings::Parsed;
+use std::io;
+use std::io::Read;
 
 // The bytes of the image's length, which stands between the block and the image.
 pub const LENGTH_SIZE: usize = 4;
@@ -35,6 +36,7 @@ fn missing(stage: Stage, n: usize, ended: bool) -> Input
 }
 
 // What to do after these bytes, which begin with a block that is accepted.
+#[tactic(auto, using(crate::proofs::Reading::length_steps))]
 fn reading_length(end: usize, at: usize, read: &[u8], ended: bool) -> Input
     requires { Ends end at }
     ensures { result ≡ input_reading_length end read.now ended }
@@ -53,6 +55,7 @@ fn reading_length(end: usize, at: usize, read: &[u8], ended: bool) -> Input
 }
 
 // What to do after these bytes, which begin with the head of a block that ends there.
+#[tactic(auto, using(crate::proofs::Reading::block_steps))]
 fn reading_block(end: usize, at: usize, read: &[u8], ended: bool) -> Input
     requires { Ends end at }
     ensures { result ≡ input_reading_block end read.now ended }
@@ -82,19 +85,35 @@ pub fn reading(read: &[u8], ended: bool) -> Input
     reading_block(end, end + LENGTH_SIZE, read, ended)
 }
 
-// Reads as far as `reading` asks, and no further.
-pub fn read(buf: &mut [u8]) -> Input
+// Reads until buf is full, the input ends or a read fails, and returns how many bytes it put at the start of buf.
+fn read_full(from: &mut impl Read, buf: &mut [u8]) -> io::Result<usize>
+    ensures { IfOk result (λ n. n ≤ length buf.new) }
+{
+    let mut done = 0;
+    while done < buf.len() {
+        let n = from.read(&mut buf[done..])?;
+        if n == 0 {
+            break;
+        }
+        done += n;
+    }
+    Ok(done)
+}
+
+// Reads as far as `reading` asks, and no further. A read that fails ends it, with that read's error.
+pub fn read(from: &mut impl Read, buf: &mut [u8]) -> io::Result<Input>
     requires { length buf.old ≡ longest }
-    ensures { HasRead buf.new result }
+    ensures read { IfOk result (λ r. HasRead buf.new r) }
+    ensures failed { OnErr result (length buf.new ≡ length buf.old) }
 {
     let mut got = 0;
     let mut ended = false;
     loop {
         match reading(&buf[..got], ended) {
-            Input::Whole(end, n) => return Input::Whole(end, n),
-            Input::Refused(stage) => return Input::Refused(stage),
+            Input::Whole(end, n) => return Ok(Input::Whole(end, n)),
+            Input::Refused(stage) => return Ok(Input::Refused(stage)),
             Input::More(n) => {
-                got += io::read_full(STDIN_FILENO, &mut buf[got..n]);
+                got += read_full(from, &mut buf[got..n])?;
                 ended = got < n;
             }
         }

@@ -11,29 +11,30 @@ ghost use Rattle.lister.specs.Input.{image_at};
 
 use image::Examined;
 use input::{Input, LENGTH_SIZE, LONGEST};
+use std::io;
 
-fn main() {
+fn main(rt: HostRuntime) -> io::Result<()> {
     let mut buf = [0u8; LONGEST];
-    match input::read(&mut buf) {
-        Input::Whole(end, n) => list(&buf[..end + LENGTH_SIZE + n], end),
-        Input::Refused(stage) => print::refusal(stage),
+    match input::read(&mut rt.stdin(), &mut buf)? {
+        Input::Whole(end, n) => list(&rt, &buf[..end + LENGTH_SIZE + n], end),
+        Input::Refused(stage) => print::refusal(&rt, stage),
         // not an answer of read, which reads on
-        Input::More(_) => {}
+        Input::More(_) => Ok(()),
     }
 }
 
 // Lists the image of a whole input, whose block ends there.
-fn list(input: &[u8], end: usize)
+fn list(rt: &impl Print, input: &[u8], end: usize) -> io::Result<()>
     requires { image_at end ≤ length input.now }
 {
     let at = end + LENGTH_SIZE;
     let img = &input[at..];
     match image::examine(&input[..end], img) {
-        Examined::Refused(stage) => print::refusal(stage),
+        Examined::Refused(stage) => print::refusal(rt, stage),
         Examined::Ready(z, counts) => {
-            print::heading();
-            rows::all(z, img);
-            print::totals(counts);
+            print::heading(rt)?;
+            rows::all(rt, z, img)?;
+            print::totals(rt, counts)
         }
     }
 }

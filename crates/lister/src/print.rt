@@ -1,17 +1,17 @@
-// Lines on standard output. What stands in each is proved; that it is written is not.
+// Lines on standard output. What stands in each is proved; that it is written is not. A write that fails is returned.
 ghost use Rattle.text.specs.Line.{Reads, LengthFits};
 ghost use Rattle.lister.specs.Printed.{refusal_text, totals_text};
 
 use image::{Counts, Stage};
-use libc::STDOUT_FILENO;
+use std::io;
 use text::Line;
 
-pub fn line(l: Line)
+pub fn line(rt: &impl Print, l: Line) -> io::Result<()>
     requires { LengthFits l }
 {
     let n = l.len;
     let bytes = l.bytes;
-    io::write_all(STDOUT_FILENO, &bytes[..n]);
+    rt.write_all(&bytes[..n])
 }
 
 fn refusal_line(stage: Stage) -> Line
@@ -31,14 +31,14 @@ fn totals_line(counts: Counts) -> Line
     )
 }
 
-pub fn refusal(stage: Stage) {
-    line(refusal_line(stage));
+pub fn refusal(rt: &impl Print, stage: Stage) -> io::Result<()> {
+    line(rt, refusal_line(stage))
 }
 
-pub fn heading() {
-    line(text::heading());
+pub fn heading(rt: &impl Print) -> io::Result<()> {
+    line(rt, text::heading())
 }
 
-pub fn totals(counts: Counts) {
-    line(totals_line(counts));
+pub fn totals(rt: &impl Print, counts: Counts) -> io::Result<()> {
+    line(rt, totals_line(counts))
 }

@@ -9,6 +9,7 @@ use crate::print;
 use entries::Live;
 use image::cursor::{LiveCursor, Step};
 use layout::Shape;
+use std::io;
 use text::Line;
 
 fn row_line(e: Live) -> Line
@@ -19,15 +20,15 @@ fn row_line(e: Live) -> Line
 }
 
 // A line for each live entry, in one walk.
-pub fn all(z: Shape, img: &[u8])
+pub fn all(rt: &impl Print, z: Shape, img: &[u8]) -> io::Result<()>
     requires { Framed z (length img.now) × ChainTiers z img.now }
 {
     let mut c = LiveCursor::first(z);
     loop {
         let Step::At(e, after) = c.step(z, img) else {
-            return;
+            return Ok(());
         };
-        print::line(row_line(e));
+        print::line(rt, row_line(e))?;
         c = after;
     }
 }

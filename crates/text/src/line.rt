@@ -46,9 +46,8 @@ impl Line {
         requires { Room 20 self }
         ensures { AddedWithin 20 self (decimal n) result }
     {
-        let mut digits = [0u8; 20];
-        let k = io::decimal(n, &mut digits);
-        self.put_word(&digits[..k])
+        let mut digits = itoa::Buffer::new();
+        self.put_word(digits.format(n).as_bytes())
     }
 
     fn put_spaced(self, n: u64) -> Line

@@ -1,6 +1,7 @@
 // A settings block made of the worked store's with changes, and the number that it gets.
 use crate::print;
 use settings::{Parsed, Settings};
+use std::io;
 
 // The values of the worked store: a place that is not used, fields 1 to 17, then the length field,
 // the version and the length of the block.
@@ -73,93 +74,94 @@ fn answer(v: &[u32; 21]) -> u64 {
     parsed(&b, wide(v[BYTES]))
 }
 
-fn name(place: usize) {
+fn name(rt: &impl Print, place: usize) -> io::Result<()> {
     if place == LENGTH {
-        print::text(b"length");
+        print::text(rt, b"length")
     } else if place == VERSION {
-        print::text(b"version");
+        print::text(rt, b"version")
     } else if place == BYTES {
-        print::text(b"bytes");
+        print::text(rt, b"bytes")
     } else {
-        print::number(place as u64);
+        print::number(rt, place as u64)
     }
 }
 
 // Changes a value, and prints the change. A place of 0 is none.
-fn change(v: &mut [u32; 21], place: u32, x: u32) {
+fn change(rt: &impl Print, v: &mut [u32; 21], place: u32, x: u32) -> io::Result<()> {
     let i = place as usize;
     if 0 < i && i < 21 {
         v[i] = x;
-        print::space();
-        name(i);
-        print::text(b"=");
-        print::number(x as u64);
+        print::space(rt)?;
+        name(rt, i)?;
+        print::text(rt, b"=")?;
+        print::number(rt, x as u64)?;
     }
+    Ok(())
 }
 
 // Prints the line of the block whose values are changed at the places that a row names.
-pub fn case(row: &[u32]) {
-    print::text(b"settings");
+pub fn case(rt: &impl Print, row: &[u32]) -> io::Result<()> {
+    print::text(rt, b"settings")?;
     let mut v = BASE;
     for i in 0..row.len() / 2 {
-        change(&mut v, row[2 * i], row[2 * i + 1]);
+        change(rt, &mut v, row[2 * i], row[2 * i + 1])?;
     }
-    answered(&v);
+    answered(rt, &v)
 }
 
-fn answered(v: &[u32; 21]) {
-    print::text(b" -> ");
-    print::number(answer(v));
-    print::end();
+fn answered(rt: &impl Print, v: &[u32; 21]) -> io::Result<()> {
+    print::text(rt, b" -> ")?;
+    print::number(rt, answer(v))?;
+    print::end(rt)
 }
 
-fn cell(x: usize) {
-    print::space();
-    print::number(x as u64);
+fn cell(rt: &impl Print, x: usize) -> io::Result<()> {
+    print::space(rt)?;
+    print::number(rt, x as u64)
 }
 
-fn first_cells(st: Settings) {
-    cell(st.globalAt);
-    cell(st.segments);
-    cell(st.headerSize);
-    cell(st.slotSize);
-    cell(st.slots);
-    cell(st.keyBits);
-    cell(st.chunkBits);
-    cell(st.lookupSize);
-    cell(st.freeListSize);
+fn first_cells(rt: &impl Print, st: Settings) -> io::Result<()> {
+    cell(rt, st.globalAt)?;
+    cell(rt, st.segments)?;
+    cell(rt, st.headerSize)?;
+    cell(rt, st.slotSize)?;
+    cell(rt, st.slots)?;
+    cell(rt, st.keyBits)?;
+    cell(rt, st.chunkBits)?;
+    cell(rt, st.lookupSize)?;
+    cell(rt, st.freeListSize)
 }
 
-fn last_cells(st: Settings) {
-    cell(st.innerOffset);
-    cell(st.chunks);
-    cell(st.chunkSize);
-    cell(st.tierSize);
-    cell(st.bulkInner);
-    cell(st.bulkTiers);
-    cell(st.bulkSize);
-    cell(st.mostChunks);
+fn last_cells(rt: &impl Print, st: Settings) -> io::Result<()> {
+    cell(rt, st.innerOffset)?;
+    cell(rt, st.chunks)?;
+    cell(rt, st.chunkSize)?;
+    cell(rt, st.tierSize)?;
+    cell(rt, st.bulkInner)?;
+    cell(rt, st.bulkTiers)?;
+    cell(rt, st.bulkSize)?;
+    cell(rt, st.mostChunks)
 }
 
-fn cells(b: &[u8; 72]) {
+fn cells(rt: &impl Print, b: &[u8; 72]) -> io::Result<()> {
     let s: &[u8] = b;
     match settings::parse(&s[0..71]) {
         Parsed::Accepted(st) => {
-            first_cells(st);
-            last_cells(st);
+            first_cells(rt, st)?;
+            last_cells(rt, st)
         }
-        Parsed::BadBlock => cell(2),
-        Parsed::BadField => cell(3),
+        Parsed::BadBlock => cell(rt, 2),
+        Parsed::BadField => cell(rt, 3),
     }
 }
 
 // Prints the settings that an accepted block gives.
-pub fn accepted() {
+pub fn accepted(rt: &impl Print) -> io::Result<()> {
     let v = DISTINCT;
     let mut b = [0u8; 72];
     head(&mut b, &v);
     fields(&mut b, &v);
-    print::text(b"settings fields");
-    cells(&b);
-    print::end();
+    print::text(rt, b"settings fields")?;
+    cells(rt, &b)?;
+    print::end(rt)
 }

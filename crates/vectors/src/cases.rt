@@ -2,6 +2,7 @@
 // values that they get in the worked store's block. 1 to 17 are the fields, 18 is the length field,
 // 19 the version, 20 the length of the block, and 0 is no place.
 use crate::blocks;
+use std::io;
 
 const BLOCK_ONE: [[u32; 2]; 15] = [
     [0, 0],
@@ -29,9 +30,9 @@ const BLOCK_MORE: [[u32; 12]; 5] = [
     [20, 70, 2, 3, 0, 0, 0, 0, 0, 0, 0, 0],
 ];
 
-fn block() {
-    one(&BLOCK_ONE);
-    more(&BLOCK_MORE);
+fn block(rt: &impl Print) -> io::Result<()> {
+    one(rt, &BLOCK_ONE)?;
+    more(rt, &BLOCK_MORE)
 }
 
 const FIELD_1_ONE: [[u32; 2]; 18] = [
@@ -55,8 +56,8 @@ const FIELD_1_ONE: [[u32; 2]; 18] = [
     [1, 4294967232],
 ];
 
-fn field_1() {
-    one(&FIELD_1_ONE);
+fn field_1(rt: &impl Print) -> io::Result<()> {
+    one(rt, &FIELD_1_ONE)
 }
 
 const FIELD_2_ONE: [[u32; 2]; 28] = [
@@ -90,8 +91,8 @@ const FIELD_2_ONE: [[u32; 2]; 28] = [
     [2, 2147483648],
 ];
 
-fn field_2() {
-    one(&FIELD_2_ONE);
+fn field_2(rt: &impl Print) -> io::Result<()> {
+    one(rt, &FIELD_2_ONE)
 }
 
 const FIELD_3_ONE: [[u32; 2]; 7] = [
@@ -104,8 +105,8 @@ const FIELD_3_ONE: [[u32; 2]; 7] = [
     [3, 4294967295],
 ];
 
-fn field_3() {
-    one(&FIELD_3_ONE);
+fn field_3(rt: &impl Print) -> io::Result<()> {
+    one(rt, &FIELD_3_ONE)
 }
 
 const FIELD_4_ONE: [[u32; 2]; 11] = [
@@ -122,8 +123,8 @@ const FIELD_4_ONE: [[u32; 2]; 11] = [
     [4, 1073741824],
 ];
 
-fn field_4() {
-    one(&FIELD_4_ONE);
+fn field_4(rt: &impl Print) -> io::Result<()> {
+    one(rt, &FIELD_4_ONE)
 }
 
 const FIELD_5_ONE: [[u32; 2]; 14] = [
@@ -172,9 +173,9 @@ const FIELD_5_MORE: [[u32; 12]; 26] = [
     [5, 8192, 8, 32768, 13, 32904, 16, 32904, 0, 0, 0, 0],
 ];
 
-fn field_5() {
-    one(&FIELD_5_ONE);
-    more(&FIELD_5_MORE);
+fn field_5(rt: &impl Print) -> io::Result<()> {
+    one(rt, &FIELD_5_ONE)?;
+    more(rt, &FIELD_5_MORE)
 }
 
 const FIELD_6_ONE: [[u32; 2]; 6] = [
@@ -195,9 +196,9 @@ const FIELD_6_MORE: [[u32; 12]; 6] = [
     [6, 61, 4, 8, 0, 0, 0, 0, 0, 0, 0, 0],
 ];
 
-fn field_6() {
-    one(&FIELD_6_ONE);
-    more(&FIELD_6_MORE);
+fn field_6(rt: &impl Print) -> io::Result<()> {
+    one(rt, &FIELD_6_ONE)?;
+    more(rt, &FIELD_6_MORE)
 }
 
 const FIELD_7_ONE: [[u32; 2]; 6] = [[7, 3], [7, 31], [7, 2], [7, 0], [7, 32], [7, 4294967295]];
@@ -224,9 +225,9 @@ const FIELD_7_MORE: [[u32; 12]; 19] = [
     [7, 12, 9, 512, 11, 4096, 13, 33408, 16, 33408, 0, 0],
 ];
 
-fn field_7() {
-    one(&FIELD_7_ONE);
-    more(&FIELD_7_MORE);
+fn field_7(rt: &impl Print) -> io::Result<()> {
+    one(rt, &FIELD_7_ONE)?;
+    more(rt, &FIELD_7_MORE)
 }
 
 const FIELD_8_ONE: [[u32; 2]; 6] = [
@@ -250,9 +251,9 @@ const FIELD_8_MORE: [[u32; 12]; 9] = [
     [8, 32767, 4, 8, 5, 4096, 13, 32904, 16, 32904, 0, 0],
 ];
 
-fn field_8() {
-    one(&FIELD_8_ONE);
-    more(&FIELD_8_MORE);
+fn field_8(rt: &impl Print) -> io::Result<()> {
+    one(rt, &FIELD_8_ONE)?;
+    more(rt, &FIELD_8_MORE)
 }
 
 const FIELD_9_ONE: [[u32; 2]; 4] = [[9, 1], [9, 0], [9, 9], [9, 4294967295]];
@@ -278,9 +279,9 @@ const FIELD_9_MORE: [[u32; 12]; 18] = [
     [9, 511, 7, 12, 11, 4096, 13, 33408, 16, 33408, 0, 0],
 ];
 
-fn field_9() {
-    one(&FIELD_9_ONE);
-    more(&FIELD_9_MORE);
+fn field_9(rt: &impl Print) -> io::Result<()> {
+    one(rt, &FIELD_9_ONE)?;
+    more(rt, &FIELD_9_MORE)
 }
 
 const FIELD_10_ONE: [[u32; 2]; 2] = [[10, 1], [10, 4294967295]];
@@ -292,9 +293,9 @@ const FIELD_10_MORE: [[u32; 12]; 4] = [
     [10, 4097, 13, 4297, 16, 4297, 0, 0, 0, 0, 0, 0],
 ];
 
-fn field_10() {
-    one(&FIELD_10_ONE);
-    more(&FIELD_10_MORE);
+fn field_10(rt: &impl Print) -> io::Result<()> {
+    one(rt, &FIELD_10_ONE)?;
+    more(rt, &FIELD_10_MORE)
 }
 
 const FIELD_11_ONE: [[u32; 2]; 4] = [[11, 4], [11, 3], [11, 0], [11, 4294967295]];
@@ -308,9 +309,9 @@ const FIELD_11_MORE: [[u32; 12]; 6] = [
     [11, 4097, 7, 13, 9, 513, 13, 33417, 16, 33417, 0, 0],
 ];
 
-fn field_11() {
-    one(&FIELD_11_ONE);
-    more(&FIELD_11_MORE);
+fn field_11(rt: &impl Print) -> io::Result<()> {
+    one(rt, &FIELD_11_ONE)?;
+    more(rt, &FIELD_11_MORE)
 }
 
 const FIELD_12_ONE: [[u32; 2]; 4] = [[12, 1], [12, 0], [12, 9], [12, 536870912]];
@@ -321,9 +322,9 @@ const FIELD_12_MORE: [[u32; 12]; 3] = [
     [12, 4097, 13, 32912, 16, 32912, 0, 0, 0, 0, 0, 0],
 ];
 
-fn field_12() {
-    one(&FIELD_12_ONE);
-    more(&FIELD_12_MORE);
+fn field_12(rt: &impl Print) -> io::Result<()> {
+    one(rt, &FIELD_12_ONE)?;
+    more(rt, &FIELD_12_MORE)
 }
 
 const FIELD_13_ONE: [[u32; 2]; 3] = [[13, 201], [13, 199], [13, 0]];
@@ -350,9 +351,9 @@ const FIELD_13_MORE: [[u32; 12]; 13] = [
     ],
 ];
 
-fn field_13() {
-    one(&FIELD_13_ONE);
-    more(&FIELD_13_MORE);
+fn field_13(rt: &impl Print) -> io::Result<()> {
+    one(rt, &FIELD_13_ONE)?;
+    more(rt, &FIELD_13_MORE)
 }
 
 const FIELD_14_ONE: [[u32; 2]; 3] = [[14, 1], [14, 4294967096], [14, 4294967295]];
@@ -364,9 +365,9 @@ const FIELD_14_MORE: [[u32; 12]; 4] = [
     [14, 65537, 16, 65737, 0, 0, 0, 0, 0, 0, 0, 0],
 ];
 
-fn field_14() {
-    one(&FIELD_14_ONE);
-    more(&FIELD_14_MORE);
+fn field_14(rt: &impl Print) -> io::Result<()> {
+    one(rt, &FIELD_14_ONE)?;
+    more(rt, &FIELD_14_MORE)
 }
 
 const FIELD_15_ONE: [[u32; 2]; 3] = [[15, 0], [15, 2], [15, 4294967295]];
@@ -380,9 +381,9 @@ const FIELD_15_MORE: [[u32; 12]; 6] = [
     [15, 64, 13, 67108864, 0, 0, 0, 0, 0, 0, 0, 0],
 ];
 
-fn field_15() {
-    one(&FIELD_15_ONE);
-    more(&FIELD_15_MORE);
+fn field_15(rt: &impl Print) -> io::Result<()> {
+    one(rt, &FIELD_15_ONE)?;
+    more(rt, &FIELD_15_MORE)
 }
 
 const FIELD_16_ONE: [[u32; 2]; 6] = [
@@ -403,9 +404,9 @@ const FIELD_16_MORE: [[u32; 12]; 6] = [
     [16, 16777215, 13, 261120, 14, 65536, 15, 64, 0, 0, 0, 0],
 ];
 
-fn field_16() {
-    one(&FIELD_16_ONE);
-    more(&FIELD_16_MORE);
+fn field_16(rt: &impl Print) -> io::Result<()> {
+    one(rt, &FIELD_16_ONE)?;
+    more(rt, &FIELD_16_MORE)
 }
 
 const FIELD_17_ONE: [[u32; 2]; 5] = [[17, 1], [17, 8], [17, 0], [17, 9], [17, 4294967295]];
@@ -420,40 +421,42 @@ const FIELD_17_MORE: [[u32; 12]; 7] = [
     [17, 65, 7, 12, 9, 512, 11, 4096, 13, 33408, 16, 33408],
 ];
 
-fn field_17() {
-    one(&FIELD_17_ONE);
-    more(&FIELD_17_MORE);
+fn field_17(rt: &impl Print) -> io::Result<()> {
+    one(rt, &FIELD_17_ONE)?;
+    more(rt, &FIELD_17_MORE)
 }
 
-fn one(rows: &[[u32; 2]]) {
+fn one(rt: &impl Print, rows: &[[u32; 2]]) -> io::Result<()> {
     for i in 0..rows.len() {
-        blocks::case(&rows[i]);
+        blocks::case(rt, &rows[i])?;
     }
+    Ok(())
 }
 
-fn more(rows: &[[u32; 12]]) {
+fn more(rt: &impl Print, rows: &[[u32; 12]]) -> io::Result<()> {
     for i in 0..rows.len() {
-        blocks::case(&rows[i]);
+        blocks::case(rt, &rows[i])?;
     }
+    Ok(())
 }
 
-pub fn all() {
-    block();
-    field_1();
-    field_2();
-    field_3();
-    field_4();
-    field_5();
-    field_6();
-    field_7();
-    field_8();
-    field_9();
-    field_10();
-    field_11();
-    field_12();
-    field_13();
-    field_14();
-    field_15();
-    field_16();
-    field_17();
+pub fn all(rt: &impl Print) -> io::Result<()> {
+    block(rt)?;
+    field_1(rt)?;
+    field_2(rt)?;
+    field_3(rt)?;
+    field_4(rt)?;
+    field_5(rt)?;
+    field_6(rt)?;
+    field_7(rt)?;
+    field_8(rt)?;
+    field_9(rt)?;
+    field_10(rt)?;
+    field_11(rt)?;
+    field_12(rt)?;
+    field_13(rt)?;
+    field_14(rt)?;
+    field_15(rt)?;
+    field_16(rt)?;
+    field_17(rt)
 }

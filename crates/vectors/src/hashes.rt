@@ -1,5 +1,6 @@
 // XXH64: published vectors, and every length to 300.
 use crate::print;
+use std::io;
 
 fn top(x: u64) -> u8 {
     (x >> 56) as u8
@@ -22,54 +23,56 @@ fn count_up(s: &mut [u8]) {
 }
 
 // The length of s, and its hash.
-fn line(s: &[u8]) {
-    print::number(s.len() as u64);
-    print::space();
-    print::hash(xxh64::xxh64(s));
-    print::end();
+fn line(rt: &impl Print, s: &[u8]) -> io::Result<()> {
+    print::number(rt, s.len() as u64)?;
+    print::space(rt)?;
+    print::hash(rt, xxh64::xxh64(s))?;
+    print::end(rt)
 }
 
-fn named(name: &[u8], s: &[u8]) {
-    print::text(b"xxh64 ");
-    print::text(name);
-    print::space();
-    line(s);
+fn named(rt: &impl Print, name: &[u8], s: &[u8]) -> io::Result<()> {
+    print::text(rt, b"xxh64 ")?;
+    print::text(rt, name)?;
+    print::space(rt)?;
+    line(rt, s)
 }
 
-fn sanities() {
+fn sanities(rt: &impl Print) -> io::Result<()> {
     let mut s = [0u8; 222];
     sanity(&mut s);
-    named(b"sanity", &s[0..1]);
-    named(b"sanity", &s[0..4]);
-    named(b"sanity", &s[0..14]);
-    named(b"sanity", &s);
+    named(rt, b"sanity", &s[0..1])?;
+    named(rt, b"sanity", &s[0..4])?;
+    named(rt, b"sanity", &s[0..14])?;
+    named(rt, b"sanity", &s)
 }
 
-pub fn published() {
-    named(b"empty", b"");
-    named(b"a", b"a");
-    named(b"as", b"as");
-    named(b"asd", b"asd");
-    named(b"asdf", b"asdf");
-    named(b"abc", b"abc");
-    named(b"xxhash", b"xxhash");
-    named(b"nobody", b"Nobody inspects the spammish repetition");
+pub fn published(rt: &impl Print) -> io::Result<()> {
+    named(rt, b"empty", b"")?;
+    named(rt, b"a", b"a")?;
+    named(rt, b"as", b"as")?;
+    named(rt, b"asd", b"asd")?;
+    named(rt, b"asdf", b"asdf")?;
+    named(rt, b"abc", b"abc")?;
+    named(rt, b"xxhash", b"xxhash")?;
+    named(rt, b"nobody", b"Nobody inspects the spammish repetition")?;
     named(
+        rt,
         b"ishmael",
         b"Call me Ishmael. Some years ago--never mind how long precisely-",
-    );
-    sanities();
+    )?;
+    sanities(rt)
 }
 
 // A line for each length to that of s.
-fn fronts(s: &[u8]) {
+fn fronts(rt: &impl Print, s: &[u8]) -> io::Result<()> {
     for n in 0..=s.len() {
-        line(&s[0..n]);
+        line(rt, &s[0..n])?;
     }
+    Ok(())
 }
 
-pub fn counted() {
+pub fn counted(rt: &impl Print) -> io::Result<()> {
     let mut s = [0u8; 300];
     count_up(&mut s);
-    fronts(&s);
+    fronts(rt, &s)
 }

@@ -8,11 +8,13 @@ mod hashes;
 mod lengths;
 mod print;
 
-fn main() {
-    hashes::published();
-    hashes::counted();
-    lengths::numbers();
-    lengths::forms();
-    blocks::accepted();
-    cases::all();
+use std::io;
+
+fn main(rt: HostRuntime) -> io::Result<()> {
+    hashes::published(&rt)?;
+    hashes::counted(&rt)?;
+    lengths::numbers(&rt)?;
+    lengths::forms(&rt)?;
+    blocks::accepted(&rt)?;
+    cases::all(&rt)
 }

@@ -1,41 +1,42 @@
-// Words on standard output.
-use libc::STDOUT_FILENO;
+// Words on standard output. A write that fails is returned.
+use std::io;
 
-pub fn text(s: &[u8]) {
-    io::write_all(STDOUT_FILENO, s);
+pub fn text(rt: &impl Print, s: &[u8]) -> io::Result<()> {
+    rt.write_all(s)
 }
 
-pub fn space() {
-    text(b" ");
+pub fn space(rt: &impl Print) -> io::Result<()> {
+    text(rt, b" ")
 }
 
-pub fn end() {
-    text(b"\n");
+pub fn end(rt: &impl Print) -> io::Result<()> {
+    text(rt, b"\n")
 }
 
-pub fn number(n: u64) {
-    io::print_decimal(STDOUT_FILENO, n);
+pub fn number(rt: &impl Print, n: u64) -> io::Result<()> {
+    print!(rt; "{n}")
 }
 
 // A hash, in 16 hexadecimal digits.
-pub fn hash(h: u64) {
-    io::print_hex(STDOUT_FILENO, h, 16);
+pub fn hash(rt: &impl Print, h: u64) -> io::Result<()> {
+    print!(rt; "{h:016x}")
 }
 
-fn byte(b: u8) {
-    io::print_hex(STDOUT_FILENO, b as u64, 2);
+fn byte(rt: &impl Print, b: u8) -> io::Result<()> {
+    print!(rt; "{b:02x}")
 }
 
 // Bytes, in two hexadecimal digits each; none are a dash.
-pub fn bytes(s: &[u8]) {
+pub fn bytes(rt: &impl Print, s: &[u8]) -> io::Result<()> {
     if s.len() == 0 {
-        text(b"-");
+        text(rt, b"-")?;
     }
-    each(s);
+    each(rt, s)
 }
 
-fn each(s: &[u8]) {
+fn each(rt: &impl Print, s: &[u8]) -> io::Result<()> {
     for i in 0..s.len() {
-        byte(s[i]);
+        byte(rt, s[i])?;
     }
+    Ok(())
 }

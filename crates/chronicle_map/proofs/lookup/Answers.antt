@@ -6,7 +6,7 @@ use Rattle.chronicle_map.proofs.lookup.Goals as goal
 pub lookup_accepted-requires : goal.lookup_accepted-requires
 lookup_accepted-requires c =
     key-sound c.args.block.now c.args.img.now c.args.key.now c.in-Ready.z c.in-Ready.field-1
-    c.asked_key.ensures c.in-Ready.is (λ i. omega (arith, c.shared_slice_known-2-1.given i))
+    c.asked_key.ensures c.in-Ready.is (λ i. omega (arith, c.type_inv.img i))
 
 pub returns-in-Refused : goal.returns-in-Refused
 returns-in-Refused c =

@@ -21,7 +21,7 @@ pub bounds-list-i : goal.bounds-list-i
 bounds-list-i c = omega (arith, c.loop-i-test.true, c.requires.lists.within)
 
 pub overflow_cast-j : goal.overflow_cast-j
-overflow_cast-j c = omega (arith, c.shared_slice_known-in-loop-i-1.given c.loop-i.i)
+overflow_cast-j c = omega (arith, c.type_inv.list c.loop-i.i)
 
 pub run_up_to-run-requires : goal.run_up_to-run-requires
 run_up_to-run-requires c = (

@@ -17,7 +17,7 @@ returns-then-not-on_the_spot c =
 pub write_from-requires : goal.write_from-requires
 write_from-requires c =
     spot-writes (walks c.requires c.chunks_for-n.ensures c.walk_chain-w.ensures) c.args.policy c.on_the_spot.ensures c.if-not-on_the_spot.false
-    (λ i. omega (arith, c.shared_slice_known-1.given i)) (λ i. omega (arith, c.shared_slice_known-2-1.given i))
+    (λ i. omega (arith, c.type_inv.key i)) (λ i. omega (arith, c.type_inv.value i))
 
 pub returns : goal.returns
 returns c =

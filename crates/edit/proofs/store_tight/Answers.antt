@@ -13,31 +13,31 @@ first_free-head-requires c = sound-framed c.args.z c.args.img.now c.requires.sto
 pub returns-then-head-eq0 : goal.returns-then-head-eq0
 returns-then-head-eq0 c =
     let w =
-    scanned c.requires (λ i. omega (arith, c.shared_slice_known-1.given i)) (λ i. omega (arith, c.shared_slice_known-2-1.given i)) c.place_for-place.ensures in
+    scanned c.requires (λ i. omega (arith, c.type_inv.key i)) (λ i. omega (arith, c.type_inv.value i)) c.place_for-place.ensures in
     no_room_lem w c.first_free-head.result c.in_default.is c.first_free-head.ensures c.if-head-eq0.true
 
 pub extend-requires : goal.extend-requires
 extend-requires c =
     let w =
-    scanned c.requires (λ i. omega (arith, c.shared_slice_known-1.given i)) (λ i. omega (arith, c.shared_slice_known-2-1.given i)) c.place_for-place.ensures in
+    scanned c.requires (λ i. omega (arith, c.type_inv.key i)) (λ i. omega (arith, c.type_inv.value i)) c.place_for-place.ensures in
     free-extends w c.first_free-head.result c.segment_of_hash-s.result c.in_default.is c.first_free-head.ensures c.if-head-eq0.false
     (segment-made c.args.z.settings c.args.key.now c.xxh64.ensures c.segment_of_hash-s.ensures.0)
 
 pub returns-in_default : goal.returns-in_default
 returns-in_default c =
     let w =
-    scanned c.requires (λ i. omega (arith, c.shared_slice_known-1.given i)) (λ i. omega (arith, c.shared_slice_known-2-1.given i)) c.place_for-place.ensures in
+    scanned c.requires (λ i. omega (arith, c.type_inv.key i)) (λ i. omega (arith, c.type_inv.value i)) c.place_for-place.ensures in
     free-stored w c.first_free-head.result c.segment_of_hash-s.result c.in_default.is c.first_free-head.ensures c.if-head-eq0.false
     (segment-made c.args.z.settings c.args.key.now c.xxh64.ensures c.segment_of_hash-s.ensures.0) c.extend.ensures
 
 pub replace-requires : goal.replace-requires
 replace-requires c =
     let w =
-    scanned c.requires (λ i. omega (arith, c.shared_slice_known-1.given i)) (λ i. omega (arith, c.shared_slice_known-2-1.given i)) c.place_for-place.ensures in
+    scanned c.requires (λ i. omega (arith, c.type_inv.key i)) (λ i. omega (arith, c.type_inv.value i)) c.place_for-place.ensures in
     run-replaces w c.in-At.t c.in-At.c c.in-At.is
 
 pub returns : goal.returns
 returns c =
     let w =
-    scanned c.requires (λ i. omega (arith, c.shared_slice_known-1.given i)) (λ i. omega (arith, c.shared_slice_known-2-1.given i)) c.place_for-place.ensures in
+    scanned c.requires (λ i. omega (arith, c.type_inv.key i)) (λ i. omega (arith, c.type_inv.value i)) c.place_for-place.ensures in
     run-stored w c.in-At.t c.in-At.c c.in-At.is c.replace.ensures

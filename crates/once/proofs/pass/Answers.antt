@@ -16,5 +16,5 @@ returns-in-Fresh c =
 pub returns-in-Full : goal.returns-in-Full
 returns-in-Full c =
     let image : Image c.args.z c.args.img.now =
-    record { bytes = λ i. omega (arith, c.shared_slice_known-1.given i); framed = c.requires.pass.reads.fitting.chains.framed } in
+    record { bytes = λ i. omega (arith, c.type_inv.img i); framed = c.requires.pass.reads.fitting.chains.framed } in
     landed c.args.z c.args.img.now c.args.by c.args.s c.args.p image c.requires.pass.reads c.chain_lands.result c.chain_lands.ensures

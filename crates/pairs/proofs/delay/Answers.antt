@@ -18,7 +18,7 @@ pair_key-key-requires c = decided_true c.channels_fit.result c.channels_fit.ensu
 pub from_located-requires : goal.from_located-requires
 from_located-requires c =
     within_by c.args.img.now c.lookup.result
-    (record_within c.args.block.now c.args.img.now _ c.lookup.result c.lookup.ensures (λ i. omega (arith, c.shared_slice_known-2-1.given i)))
+    (record_within c.args.block.now c.args.img.now _ c.lookup.result c.lookup.ensures (λ i. omega (arith, c.type_inv.img i)))
 
 pub returns : goal.returns
 returns c =

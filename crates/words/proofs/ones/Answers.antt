@@ -1,4 +1,3 @@
-use Prim.Native.Nat.{◌-◌}
 use mathlib.Core.Path.{◌≡◌, sym}
 use Rattle.words.proofs.Bits.{ones_none, ones-more, ones-le}
 use native.Mathlib.Omega.{arith}

@@ -1,4 +1,3 @@
-use Prim.Native.Nat.{◌-◌}
 use Rattle.words.proofs.Bits.{put_bits-starts, put_bits-turns, put_bits-ends}
 use native.Mathlib.Omega.{arith}
 use Rattle.words.proofs.put_bits.Goals as goal

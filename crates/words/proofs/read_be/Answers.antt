@@ -1,4 +1,3 @@
-use Prim.Native.Nat.{◌-◌}
 use Rattle.words.proofs.Numbers.{be-starts, be-turns, be-ends, seven-bytes-lt}
 use native.Mathlib.Omega.{arith}
 use Rattle.words.proofs.read_be.Goals as goal

@@ -1,4 +1,3 @@
-use Prim.Native.Nat.{◌-◌}
 use Rattle.words.proofs.Numbers.{put_le-starts, put_le-turns, put_le-ends}
 use native.Mathlib.Omega.{arith}
 use Rattle.words.proofs.write_le.Goals as goal

@@ -1,4 +1,4 @@
-use Rattle.std.proofs.Common.{◌≡◌, ◌+◌, ◌-◌, ◌*◌, ◌/◌, length, arith}
+use Rattle.std.proofs.Common.{◌≡◌, ◌+◌, ◌*◌, ◌/◌, length, arith}
 use Rattle.xxh64.specs.Hash.{lanes_of}
 use Rattle.xxh64.proofs.Laws.{lanes_of_more}
 use Rattle.xxh64.proofs.stripes.Goals as goal

@@ -1,4 +1,4 @@
-use Rattle.std.proofs.Common.{◌≡◌, ◌-◌, refl, arith}
+use Rattle.std.proofs.Common.{◌≡◌, refl, arith}
 use Rattle.xxh64.specs.Hash.{tail_of, mix1_of}
 use Rattle.xxh64.proofs.Laws.{tail_of-byte}
 use Rattle.xxh64.proofs.tail1.Goals as goal

@@ -1,4 +1,4 @@
-use Rattle.std.proofs.Common.{◌≡◌, ◌-◌, refl, arith}
+use Rattle.std.proofs.Common.{◌≡◌, refl, arith}
 use Rattle.xxh64.specs.Hash.{tail_of, mix8_of}
 use Rattle.xxh64.proofs.Laws.{tail_of-more}
 use Rattle.xxh64.proofs.tail8.Goals as goal

@@ -15,8 +15,8 @@ returns-then-read_le8 c =
 pub loop-k-preserved : goal.loop-k-preserved
 loop-k-preserved c = (
   omega arith,
-  eights_turn c.args.img.now c.args.at c.args.key.now c.loop-k.k (λ i. omega (arith, c.shared_slice_known-1.given i))
-      (λ i. omega (arith, c.shared_slice_known-2-1.given i)) c.loop-k.invariant.1 (sym c.read_le8.ensures ∙ c.if-read_le8.false ∙ c.read_le8-in-loop-k.ensures),
+  eights_turn c.args.img.now c.args.at c.args.key.now c.loop-k.k (λ i. omega (arith, c.type_inv.img i))
+      (λ i. omega (arith, c.type_inv.key i)) c.loop-k.invariant.1 (sym c.read_le8.ensures ∙ c.if-read_le8.false ∙ c.read_le8-in-loop-k.ensures),
 )
 
 pub returns : goal.returns

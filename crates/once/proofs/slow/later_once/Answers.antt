@@ -34,7 +34,7 @@ tier_lands-requires c =
 pub returns-then-not-tier_lands : goal.returns-then-not-tier_lands
 returns-then-not-tier_lands c =
     let image : Image c.args.z c.args.img.now =
-    record { bytes = λ i. omega (arith, c.shared_slice_known-1.given i); framed = c.requires.reads.fitting.chains.framed } in
+    record { bytes = λ i. omega (arith, c.type_inv.img i); framed = c.requires.reads.fitting.chains.framed } in
     later-twice c.args.z c.args.img.now c.args.s image (c.requires) all c.loop-t.t
     (hold_in c.args.z c.args.img.now c.args.s _ c.requires.reads.fitting.fits c.loop-t.invariant c.loop-t-test.true)
     (decided-false {P = PassLands c.args.z c.args.img.now all 0 c.loop-t.t} c.tier_lands.result c.tier_lands.ensures
@@ -59,6 +59,6 @@ loop-t-preserved c =
 pub returns : goal.returns
 returns c =
     let image : Image c.args.z c.args.img.now =
-    record { bytes = λ i. omega (arith, c.shared_slice_known-1.given i); framed = c.requires.reads.fitting.chains.framed } in
+    record { bytes = λ i. omega (arith, c.type_inv.img i); framed = c.requires.reads.fitting.chains.framed } in
     later-once c.args.z c.args.img.now c.args.s image (c.requires) all refl
     (hold-ends c.args.z c.args.img.now c.args.s _ c.requires.reads.fitting.fits c.loop-t.invariant c.loop-t-test.false)

@@ -29,7 +29,7 @@ pub bounds-table-at : goal.bounds-table-at
 bounds-table-at c = (c.loop-left.invariant.0 c.args.by).lt
 
 pub overflow_cast-w : goal.overflow_cast-w
-overflow_cast-w c = omega (arith, c.shared_slice_known-in-loop-left-1.given c.loop-left.cursor.slot)
+overflow_cast-w c = omega (arith, c.type_inv.table c.loop-left.cursor.slot)
 
 pub returns-then-w-eq0 : goal.returns-then-w-eq0
 unfolding seek_ref
