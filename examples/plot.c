@@ -58,7 +58,7 @@ static int plot(const struct store *s)
                 answer = ask(s, a, b, &t);
                 bad |= answer != CHRONICLE_MAP_DONE && answer != CHRONICLE_MAP_ABSENT;
             }
-    printf("%" PRIu32 " lookups, %" PRIu32 " found\n", t.asks, t.found);
+    printf("%" PRIu32 " asks, %" PRIu32 " found\n", t.asks, t.found);
     return bad;
 }
 

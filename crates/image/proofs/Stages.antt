@@ -9,7 +9,6 @@ use Rattle.lists.proofs.Decides.{choose_no, choose_yes}
 use Rattle.settings.specs.declared.Settings.{Settings}
 use Rattle.settings.specs.Rules.{Valid}
 use Rattle.layout.specs.declared.Shape.{Shape}
-use Rattle.layout.specs.declared.Frame.{Frame}
 use Rattle.layout.specs.declared.Frame.TheVariants.{Fits}
 use Rattle.layout.specs.declared.Frame.TheVariants as frame
 use Rattle.layout.specs.Frame.{shape_of, frame_fits?, frame_of, Framed}

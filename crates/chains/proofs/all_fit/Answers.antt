@@ -3,7 +3,6 @@ use mathlib.Core.Path.{◌∙◌}
 use native.Mathlib.Omega.{arith}
 use Rattle.chains.proofs.Walking.{told-ended, told-lost}
 use borrow.Author.Rules.{rules}
-use Prim.Native.Nat.{◌-◌}
 use Rattle.chains.proofs.Segments.{all-starts, all-turns, all-lost, all-ends}
 use Rattle.chains.proofs.all_fit.Goals as goal
 

@@ -1,7 +1,6 @@
 use native.Mathlib.Omega.{arith}
 use native.Mathlib.Numerals.{add-one}
 use Rattle.lists.proofs.Decides.{decided_true, decided-false}
-use Prim.Native.Nat.{◌-◌}
 use Rattle.chains.proofs.Standing.{standing-starts, standing-tier, standing-turns, standing-ends}
 use Rattle.chains.proofs.all_stand.Goals as goal
 

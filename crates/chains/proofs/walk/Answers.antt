@@ -1,6 +1,5 @@
 use Rattle.layout.proofs.Bounds.{framed-bounded}
 use native.Mathlib.Omega.{arith}
-use Prim.Native.Nat.{◌-◌}
 use Rattle.chains.proofs.Walking.{walk-starts, walk-met, walk_ends, walk-lost, walk-turns, walk-out}
 use Rattle.chains.proofs.walk.Goals as goal
 

@@ -1,8 +1,6 @@
 use native.Mathlib.Omega.{arith}
 use borrow.Author.Count.{below_more}
 use mathlib.Core.Path.{sym, ◌∙◌}
-use Prim.Native.Nat.{◌-◌}
-use Rattle.layout.specs.Places.{mark}
 use borrow.Author.Rules.{rules}
 use Rattle.chunks.proofs.all_clear.Goals as goal
 

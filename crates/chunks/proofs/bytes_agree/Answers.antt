@@ -1,6 +1,6 @@
 use native.Mathlib.Omega.{arith}
 use mathlib.Core.Path.{sym, ◌∙◌, ◌≡◌, ap}
-use Prim.Native.Nat.{◌+◌, ◌*◌, ◌/◌, ◌-◌}
+use Prim.Native.Nat.{◌+◌, ◌*◌, ◌/◌}
 use Rattle.lists.proofs.Decides.{decided_true, decided-false}
 use Rattle.chunks.specs.Counting.{marked_below}
 use Rattle.chunks.proofs.Marks.{marked-none, marked-le}

@@ -1,6 +1,5 @@
 use native.Mathlib.Omega.{arith}
 use Rattle.chunks.proofs.Covering.{counting-starts, counting-long, counting-small, counting-turns, counting-ends}
-use Prim.Native.Nat.{◌-◌}
 use Rattle.chunks.proofs.count.Goals as goal
 
 pub loop-i-init : goal.loop-i-init

@@ -2,8 +2,6 @@ use native.Mathlib.Omega.{arith}
 use borrow.Author.Count.{below_more}
 use mathlib.Core.Path.{sym, ◌∙◌, ◌≡◌}
 use borrow.Author.Rules.{rules}
-use Prim.Native.Nat.{◌-◌}
-use Rattle.layout.specs.Places.{mark}
 use Rattle.chunks.proofs.Marks.{lowest-at, lowest-none}
 use Rattle.chunks.proofs.lowest_clear.Goals as goal
 

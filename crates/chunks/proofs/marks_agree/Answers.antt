@@ -1,7 +1,6 @@
 use native.Mathlib.Omega.{arith}
 use borrow.Author.Count.{below_more}
 use mathlib.Core.Path.{sym, ◌∙◌, ap}
-use Prim.Native.Nat.{◌-◌}
 use Rattle.chunks.specs.Counting.{marked_below}
 use Rattle.chunks.proofs.Marks.{marked_more, marked-le, same_taken, differ-taken}
 use borrow.Author.Rules.{rules}

@@ -1,5 +1,4 @@
 use native.Mathlib.Omega.{arith}
-use Prim.Native.Nat.{◌-◌}
 use Rattle.chunks.proofs.Eights.{whole-starts, whole_room, whole-turns, whole-inside, byte-all}
 use borrow.Author.Rules.{rules}
 use Rattle.chunks.proofs.whole_bytes.Goals as goal

@@ -1,5 +1,4 @@
 use Rattle.contents.proofs.Sums.{chain-small, all-starts, all_small, all-turns, all-ends}
-use Prim.Native.Nat.{◌-◌}
 use native.Mathlib.Omega.{arith}
 use Rattle.contents.proofs.chained_contents.Goals as goal
 

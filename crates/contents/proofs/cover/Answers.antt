@@ -1,4 +1,3 @@
-use Prim.Native.Nat.{◌-◌}
 use native.Mathlib.Omega.{arith}
 use borrow.Author.Tests.{ltb-true}
 use Rattle.contents.proofs.Covering.{listed, full-few, covering-starts, covering-long, covering-small, run-here, covering-lost, entry_in, range_in, covering-turns, covering-ends}

@@ -1,6 +1,4 @@
 use Rattle.contents.proofs.Gathering.{gathering_starts, gathering_full, gathering_empty, gathering_ends}
-use Prim.Native.Nat.{◌-◌}
-use mathlib.Core.Logic.{⊎_elim}
 use mathlib.Core.Path.{sym, ◌∙◌}
 use native.Mathlib.Omega.{arith}
 use Rattle.contents.proofs.list_full.Goals as goal

@@ -1,7 +1,5 @@
 use native.Mathlib.Omega.{arith}
 use mathlib.Core.Path.{sym, ◌∙◌}
-use mathlib.Core.Logic.{⊎_elim}
-use Prim.Native.Nat.{◌-◌}
 use Rattle.counters.proofs.FullCount.{counted-starts, counted-few, counted-full, counted-empty, counted-ends}
 use Rattle.counters.proofs.full_slots.Goals as goal
 use Rattle.counters.proofs.full_slots.Goals.{then-slot-ne0, else-slot-ne0}

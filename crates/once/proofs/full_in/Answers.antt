@@ -1,6 +1,4 @@
-use Prim.Native.Nat.{◌-◌}
 use native.Mathlib.Omega.{arith}
-use mathlib.Core.Logic.{⊎_elim}
 use Rattle.once.proofs.full_in.Goals as goal
 use Rattle.once.proofs.full_in.Goals.{then-slot-ne0, else-slot-ne0}
 

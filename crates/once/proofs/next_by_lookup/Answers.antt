@@ -1,4 +1,3 @@
-use Prim.Native.Nat.{◌-◌}
 use Rattle.lists.proofs.Decides.{decided_true, decided-false}
 use Rattle.once.specs.Refs.{InPass}
 use Rattle.once.proofs.Walking.{skipping_starts, skipping_turns, skipping_found, skipping_ends}

@@ -1,5 +1,4 @@
 use native.Mathlib.Omega.{arith}
-use mathlib.Core.Logic.{⊎_elim}
 use Rattle.once.proofs.share_out.Goals as goal
 use Rattle.once.proofs.share_out.Goals.{then-n-le-IN_A_SMALL_PASS, else-n-le-IN_A_SMALL_PASS}
 

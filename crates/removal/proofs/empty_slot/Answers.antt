@@ -1,7 +1,5 @@
 use native.Mathlib.Omega.{arith}
 use mathlib.Core.Path.{ap, ◌∙◌}
-use mathlib.Core.Logic.{⊎_elim}
-use borrow.Author.Tests.{not-true, not-false}
 use Prim.Native.Nat.{ℕ}
 use Rattle.probe.specs.Ring.{next}
 use Rattle.removal.proofs.Emptying.{emptying_starts, emptying_framed, emptying_long, emptying_empty, emptying_out, emptying_stays, emptying_moves}

@@ -1,5 +1,4 @@
 use mathlib.Core.Path.{refl, sym, ◌∙◌}
-use Prim.Native.Nat.{◌-◌}
 use Rattle.layout.proofs.Bounds.{framed-bounded}
 use Rattle.search.proofs.Ending.{reaching-starts, reaching-ends, reaching-out, reaching-here, reaching-tier, reaching-wrong, reaching-turns}
 use Rattle.search.proofs.comes_to.Goals as goal

@@ -3,7 +3,6 @@ use mathlib.Core.Path.{refl, sym, ap, ◌∙◌}
 use Rattle.layout.proofs.Bounds.{framed-bounded}
 use Rattle.entries.specs.Keys.{segment_of_hash, segment_of, lookup_of_hash, lookup_key}
 use Rattle.search.proofs.Seeking.{search-starts, searching-ends, searching-out, searching-tier, searching-found, searching-turns}
-use Prim.Native.Nat.{◌-◌}
 use Rattle.search.proofs.search.Goals as goal
 
 pub tier_count-most-requires : goal.tier_count-most-requires

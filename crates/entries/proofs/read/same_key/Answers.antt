@@ -1,5 +1,5 @@
 use native.Mathlib.Omega.{arith}
-use Prim.Native.Nat.{◌-◌, ◌*◌, ◌/◌}
+use Prim.Native.Nat.{◌*◌, ◌/◌}
 use mathlib.Core.Path.{sym}
 use Rattle.lists.proofs.Decides.{decided_true, decided-false}
 use Rattle.entries.proofs.Matching.{match-starts, match-turns, length-differs, byte-differs, some-differ, all_same}

@@ -1,5 +1,4 @@
 use mathlib.Core.Path.{refl}
-use mathlib.Core.Bool.{false}
 use native.Mathlib.Omega.{arith}
 use Rattle.lists.proofs.Decides.{decided_true, decided-false}
 use Rattle.layout.specs.Frame.{Image}

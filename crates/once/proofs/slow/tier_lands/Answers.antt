@@ -1,4 +1,3 @@
-use Prim.Native.Nat.{◌-◌}
 use native.Mathlib.Omega.{arith}
 use Rattle.lists.proofs.Decides.{decided_true, decided-false}
 use Rattle.search.specs.Landing.{LandsAt}

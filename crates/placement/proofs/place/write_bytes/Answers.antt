@@ -1,4 +1,3 @@
-use Prim.Native.Nat.{◌-◌}
 use Rattle.placement.proofs.Copying.{copying_starts, copying_turns, copying_ends}
 use Rattle.placement.proofs.place.write_bytes.Goals as goal
 

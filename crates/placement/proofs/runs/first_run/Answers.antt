@@ -1,6 +1,5 @@
 use native.Mathlib.Omega.{arith}
 use mathlib.Core.Path.{refl, sym, ◌∙◌}
-use Prim.Native.Nat.{◌-◌}
 use Rattle.layout.proofs.Bounds.{framed-bounded}
 use Rattle.placement.proofs.FirstRun.{seeking-ends, seeking-out, seeking-tier, seeking-found, seeking-turns}
 use Rattle.placement.proofs.runs.first_run.Goals as goal

@@ -1,7 +1,5 @@
 use native.Mathlib.Omega.{arith}
 use mathlib.Core.Path.{sym, ◌∙◌}
-use borrow.Author.Tests.{not-true, not-false}
-use Prim.Native.Nat.{◌-◌}
 use Rattle.placement.proofs.LowestRun.{running-starts, running-ends, running-broken, running-turns, running-found}
 use Rattle.placement.proofs.runs.lowest_run.Goals as goal
 

@@ -1,6 +1,5 @@
 use native.Mathlib.Omega.{arith}
 use mathlib.Core.Path.{refl, sym, ◌∙◌}
-use Prim.Native.Nat.{◌-◌}
 use Rattle.layout.proofs.Bounds.{framed-bounded}
 use Rattle.placement.proofs.Written.{segment-made, lookup-made}
 use Rattle.placement.proofs.Walking.{walking_starts, walking_ends, walking_out, walking_in, walking_slot, walking_found, walking_turns}

@@ -1,4 +1,3 @@
-use Prim.Native.Nat.{◌-◌}
 use native.Mathlib.Omega.{arith}
 use Rattle.image.proofs.Rest.{tier-starts, tier-met, tier-empty, tier-over, tier-found}
 use Rattle.image.proofs.cursor.LiveCursor.in_tier.Goals as goal
