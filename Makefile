@@ -15,7 +15,7 @@ SHARED = $(TARGET)/lib/libchronicle_map.so.$(VERSION)
 LISTER = $(TARGET)/bin/lister
 CARGO = CARGO_TARGET_DIR=$(CURDIR)/target/cargo cargo
 
-# The whole gate: all proofs from scratch, the must-fail edits (wrong changes that the prover must refuse), the programs and the tests.
+# The whole gate: all proofs, the must-fail edits (wrong changes that the prover must refuse), the programs and the tests.
 test:
 	.ci/run
 

@@ -33,8 +33,9 @@
  * -----------------
  * Every call but the two quick ones needs at most 85 KiB of stack, which leaves room on a thread's stack of 128 KiB.
  * On an ordinary store (each chain one tier that is not nearly full, lookup keys that mostly differ) 19 KiB are
- * enough. A quick call needs less than 1 KiB. All this is measured (`make bench ARGS=--stack`), not proved. The
- * time of a call is that of the check, which grows with the image; docs/SPEED.md has it for chains of many full tiers.
+ * enough. A quick call needs less than 1 KiB. All this is measured (`make bench ARGS=--stack`; with the code
+ * that an older Rattle kit built), not proved. The time of a call is that of the check, which grows with the image;
+ * docs/SPEED.md has it for chains of many full tiers.
  *
  * Two stores of one map
  * ---------------------

@@ -110,7 +110,8 @@ module _ (block : List ℕ) (img : Bor (List ℕ)) (key : List ℕ) (r : Located
       subst (λ (x : Located). RecordOf img x (sl_partˢ img (record_at l + img.ref_ptr.1) (record_at l) (record_at l + record_length l))) (sym e ∙ er)
       (part_of img (record_at l) (record_length l))
 
-  pub record_found : (p : RecordPlace) → r ≡ located.Found p → RecordOf img (lookup block img.now key) (sl_partˢ img (p.offset + img.ref_ptr.1) p.offset (p.offset + p.length))
+  pub record_found : (p : RecordPlace) → r ≡ located.Found p → RecordOf img (lookup block img.now key)
+      (sl_partˢ img (p.offset + img.ref_ptr.1) p.offset (p.offset + p.length))
   unfolding record_at record_length
   record_found p e = record_is (located.Found p) e
 

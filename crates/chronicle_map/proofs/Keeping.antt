@@ -19,7 +19,6 @@ use Rattle.layout.proofs.Marks.{mark-lt}
 use Rattle.chains.specs.Chains.{chain, chained}
 use Rattle.entries.specs.Stored.{chunks_for}
 use Rattle.entries.specs.Live.{live}
-use Rattle.chunks.specs.Chunks.{marked_chunks}
 use Rattle.entries.specs.Pairs.{pair_of, pairs_of}
 use Rattle.chains.proofs.Chained.{chained_in, extra-once}
 use Rattle.sound.proofs.KeyCounts.{with_key, keys-once}

@@ -38,7 +38,7 @@ use Rattle.chronicle_map.specs.declared.Answer.TheVariants as answer
 use Rattle.chronicle_map.specs.Asked.{an_entry, given_key_fits?, given_value_fits?, after_value, after_key}
 use Rattle.chronicle_map.specs.Calls.{Edited, answer_number, store_unless, storing, store}
 use Rattle.chronicle_map.specs.History.{stores, map_of, map_get, told_of}
-use Rattle.chronicle_map.specs.Demands.{shape, Accepted}
+use Rattle.chronicle_map.specs.Demands.{shape}
 use Rattle.chronicle_map.proofs.Weights.{Weigh}
 use Rattle.chronicle_map.proofs.Accepting.{Holds, holds-again, map-again}
 use Rattle.chronicle_map.proofs.Steps.{asked-holds, store-by-cases}

@@ -56,7 +56,8 @@ module _ (z : Shape) (img : List ℕ) where
       ap length
       (flat_map_append (live_in z img s) ts (t ∷ []) ∙ ap (λ (r : List Live). flat_map (live_in z img s) ts ++ r) (append-nil (live_in z img s t)))
       ∙
-      (length-append (flat_map (live_in z img s) ts) (live_in z img s t) ∙ ap (λ (n : ℕ). length (flat_map (live_in z img s) ts) + n) (length_live_in z img s t))
+      (length-append (flat_map (live_in z img s) ts) (live_in z img s t) ∙ ap (λ (n : ℕ). length (flat_map (live_in z img s) ts) + n)
+      (length_live_in z img s t))
 
   more-marked : (ts : List ℕ) (t : ℕ) → marked_over (ts ++ (t ∷ [])) ≡ marked_over ts + marked_in z img t
   unfolding marked_over total

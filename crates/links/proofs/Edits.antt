@@ -70,4 +70,5 @@ module _ {next next' : ℕ → ℕ} where
       (λ u k n. f u (mathlib.Core.List.Memᴰ.append_left (t ∷ ys) k) n (linked-apart xs (t ∷ ys) r k here))
       (run-from e
       (linked-rest rest
-      (λ u k n. f u (mathlib.Core.List.Memᴰ.append_right xs (mathlib.Core.List.Memᴰ.tail k)) (λ c. linked-apart xs (t ∷ ys) r m (mathlib.Core.List.Memᴰ.tail k) (sym c)) n)))
+      (λ u k n. f u (mathlib.Core.List.Memᴰ.append_right xs (mathlib.Core.List.Memᴰ.tail k))
+      (λ c. linked-apart xs (t ∷ ys) r m (mathlib.Core.List.Memᴰ.tail k) (sym c)) n)))

@@ -33,7 +33,8 @@ module _ {A : Type 0} (p : A → Bool) where
   in_those x (y ∷ ys) m h =
       by-test (p y)
       (λ (t : p y ≡ true).
-      rw (t, those) (⊎_elim (λ (e : x ≡ y). mathlib.Core.List.Memᴰ.head e) (λ k. mathlib.Core.List.Memᴰ.tail (in_those x ys k h)) (mathlib.Core.List.Memᴰ.cases_cons m)))
+      rw (t, those) (⊎_elim (λ (e : x ≡ y). mathlib.Core.List.Memᴰ.head e) (λ k. mathlib.Core.List.Memᴰ.tail (in_those x ys k h))
+      (mathlib.Core.List.Memᴰ.cases_cons m)))
       (λ (t : p y ≡ false).
       rw (t, those)
       (⊎_elim (λ (e : x ≡ y). absurd (false≢true (sym t ∙ ap p (sym e) ∙ h))) (λ k. in_those x ys k h) (mathlib.Core.List.Memᴰ.cases_cons m)))

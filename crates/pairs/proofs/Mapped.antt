@@ -72,7 +72,8 @@ module _ (block img : List ℕ) (bytes : Bytes img) (accepted : Accepted block i
     value = delay_record (in_order a b d)
 
     abbrev after : Setting
-    after = record { answer = set.Stored (store OnTheSpot block img (pair_key a b) value).answer; image = (store OnTheSpot block img (pair_key a b) value).image }
+    after =
+        record { answer = set.Stored (store OnTheSpot block img (pair_key a b) value).answer; image = (store OnTheSpot block img (pair_key a b) value).image }
 
     stored : answer_number (store OnTheSpot block img (pair_key a b) value).answer ≡ 0 → AfterSet block img a b d after
     stored e =

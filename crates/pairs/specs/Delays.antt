@@ -62,7 +62,8 @@ pub record Setting : Type 0 where
 
 -- what the store of a record answers and leaves; a refusal leaves the image
 abbrev pub from_store : List ℕ → List ℕ → List ℕ → List ℕ → Setting
-from_store block img key bytes = record { answer = set.Stored (store OnTheSpot block img key bytes).answer; image = (store OnTheSpot block img key bytes).image }
+from_store block img key bytes =
+    record { answer = set.Stored (store OnTheSpot block img key bytes).answer; image = (store OnTheSpot block img key bytes).image }
 
 abbrev pub refusing : List ℕ → SetAnswer → Setting
 refusing img x = record { answer = x; image = img }

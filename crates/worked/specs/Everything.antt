@@ -27,7 +27,8 @@ use Rattle.image.specs.Everything.{everything as image_everything}
 unfoldable pub everything : ℕ
 unfolding image_everything stays shift probe_remove pairs_of recount settle touched remove_at from_lowest clear_from lowest_run run_in first_run run_for
     written slotted place_at join later unlink is_empty_extra unlink_empty no_bulk empty_slots empty_tier after_new new_tiers grow_image find without_entry
-    without removed_entry remove_image run_of no_room place_in on_the_spot entry_in stored_entry store_image given_key_fits? given_value_fits? after_value after_key
+    without removed_entry remove_image run_of no_room place_in on_the_spot entry_in stored_entry store_image given_key_fits? given_value_fits?
+    after_value after_key
     after_examined asked from_find looked_up lookup record_at record_length record_bytes remove_found removing remove store_unless storing store grow_unless
     growing grow says leaves told_of after_all on_each frame_of entry_reads? compared tested at_slot over_slots in_tier from_tier walk opened_frame opened_block
     opened from_walk quick_key after_opened quick_lookup is_channel? channels_fit? pair_key record_delay record_fits? from_record from_located quick_pair

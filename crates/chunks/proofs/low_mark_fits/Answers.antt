@@ -22,4 +22,11 @@ returns c =
       none_below = omega (arith, e, c.low_of-field.ensures, c.lowest_clear-low.ensures);
       when_full = λ full. omega (arith, e, c.low_of-field.ensures, c.lowest_clear-low.ensures, full);
     })
-    (λ f. omega (arith, c.low_of-field.ensures, c.lowest_clear-low.ensures, c.if-low-z.false, few, f.when_full (omega (arith, c.lowest_clear-low.ensures, c.if-low-z.false, few))))
+    (λ f. omega (
+      arith,
+      c.low_of-field.ensures,
+      c.lowest_clear-low.ensures,
+      c.if-low-z.false,
+      few,
+      f.when_full (omega (arith, c.lowest_clear-low.ensures, c.if-low-z.false, few)),
+    ))

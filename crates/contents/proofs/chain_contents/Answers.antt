@@ -21,13 +21,16 @@ tier_contents-tier-requires c = chained-tier (c.requires) (summing_in c.args.z c
 pub joined-sum-requires : goal.joined-sum-requires
 joined-sum-requires c =
     record {
-      left = summing_small c.args.z c.args.img.now c.loop-t.invariant c.requires.chains.framed.valid.slots.1.1 c.requires.chains.framed.valid.chunks.1 c.requires.chains.framed.tier_count;
+      left =
+          summing_small c.args.z c.args.img.now c.loop-t.invariant c.requires.chains.framed.valid.slots.1.1 c.requires.chains.framed.valid.chunks.1
+          c.requires.chains.framed.tier_count;
       right = tier-small c.args.z c.args.img.now c.args.s c.loop-t.t _ c.requires.chains.framed.valid.slots.1.1 c.requires.chains.framed.valid.chunks.1
           c.tier_contents-tier.ensures.says;
     }
 
 pub next_of-t-requires : goal.next_of-t-requires
-next_of-t-requires c = (c.requires.chains.framed, chain-tier (c.requires) (summing_in c.args.z c.args.img.now c.loop-t.invariant c.requires.fits c.loop-t-test.true))
+next_of-t-requires c =
+    (c.requires.chains.framed, chain-tier (c.requires) (summing_in c.args.z c.args.img.now c.loop-t.invariant c.requires.fits c.loop-t-test.true))
 
 pub loop-t-smaller : goal.loop-t-smaller
 loop-t-smaller c = summing_less c.args.z c.args.img.now c.loop-t.invariant c.requires.fits c.loop-t-test.true c.next_of-t.ensures
@@ -59,7 +62,8 @@ returns-then-next_of-eq0 c =
     (summing_ends c.args.z c.args.img.now c.loop-t.invariant c.loop-t-test.false)
 
 pub with_keys-requires : goal.with_keys-requires
-with_keys-requires c = record { fitting = c.requires; says = summing_ends c.args.z c.args.img.now c.loop-t.invariant c.loop-t-test.false; alone = c.loop-t.invariant.alone }
+with_keys-requires c =
+    record { fitting = c.requires; says = summing_ends c.args.z c.args.img.now c.loop-t.invariant c.loop-t-test.false; alone = c.loop-t.invariant.alone }
 
 pub returns : goal.returns
 returns c = c.with_keys.ensures

@@ -19,7 +19,8 @@ returns-in_default c =
     c.in_default.is
 
 pub returns-then-count_of-full : goal.returns-then-count_of-full
-returns-then-count_of-full c = tier-wrong c.args.z c.args.img.now c.args.s c.args.t (λ f. c.if-count_of-full.true (c.count_of.ensures ∙ f.counters.entry_count ∙ sym c.requires.full_is))
+returns-then-count_of-full c =
+    tier-wrong c.args.z c.args.img.now c.args.s c.args.t (λ f. c.if-count_of-full.true (c.count_of.ensures ∙ f.counters.entry_count ∙ sym c.requires.full_is))
 
 pub returns-then-not-low_mark_fits : goal.returns-then-not-low_mark_fits
 returns-then-not-low_mark_fits c =

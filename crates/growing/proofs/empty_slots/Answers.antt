@@ -1,4 +1,3 @@
-use Prim.Native.Nat.{◌-◌}
 use native.Mathlib.Omega.{arith}
 use Rattle.sound.proofs.Framing.{framed-again}
 use Rattle.growing.proofs.Loops.{empty_slots-starts, empty_slots-long, empty_slots-turns, empty_slots-ends}

@@ -1,4 +1,3 @@
-use Prim.Native.Nat.{◌-◌}
 use mathlib.Core.Path.{sym, subst}
 use native.Mathlib.Omega.{arith}
 use lib.ListN.{length}
@@ -33,19 +32,34 @@ overflow_add-t c = omega (arith, c.tier_count-first.ensures, c.requires.tier_cou
 pub after_new-requires : goal.after_new-requires
 after_new-requires c =
     let read : BulkRead c.args.z c.args.img.now c.grown-more.result c.tier_count-last.result c.first_free-head.result c.tier_count-first.result =
-    record { more_is = c.grown-more.ensures; last_is = c.tier_count-last.ensures; head_is = c.first_free-head.ensures; count_is = c.tier_count-first.ensures } in
+    record {
+      more_is = c.grown-more.ensures;
+      last_is = c.tier_count-last.ensures;
+      head_is = c.first_free-head.ensures;
+      count_is = c.tier_count-first.ensures;
+    } in
     (new-within _ _ c.loop-k.invariant read (omega arith), last-few _ _ c.loop-k.invariant read (omega arith) c.requires)
 
 pub empty_tier-requires : goal.empty_tier-requires
 empty_tier-requires c =
     let read : BulkRead c.args.z c.args.img.now c.grown-more.result c.tier_count-last.result c.first_free-head.result c.tier_count-first.result =
-    record { more_is = c.grown-more.ensures; last_is = c.tier_count-last.ensures; head_is = c.first_free-head.ensures; count_is = c.tier_count-first.ensures } in
+    record {
+      more_is = c.grown-more.ensures;
+      last_is = c.tier_count-last.ensures;
+      head_is = c.first_free-head.ensures;
+      count_is = c.tier_count-first.ensures;
+    } in
     new-framed _ _ c.loop-k.invariant read (omega arith) c.requires
 
 pub loop-k-preserved : goal.loop-k-preserved
 loop-k-preserved c =
     let read : BulkRead c.args.z c.args.img.now c.grown-more.result c.tier_count-last.result c.first_free-head.result c.tier_count-first.result =
-    record { more_is = c.grown-more.ensures; last_is = c.tier_count-last.ensures; head_is = c.first_free-head.ensures; count_is = c.tier_count-first.ensures } in
+    record {
+      more_is = c.grown-more.ensures;
+      last_is = c.tier_count-last.ensures;
+      head_is = c.first_free-head.ensures;
+      count_is = c.tier_count-first.ensures;
+    } in
     new_tiers-turns _ _ c.loop-k.invariant read c.loop-k-test.true c.after_new.ensures c.empty_tier.ensures
 
 pub shape_of-img : goal.shape_of-img

@@ -1,6 +1,5 @@
 use native.Mathlib.Omega.{arith}
 use mathlib.Core.Path.{refl}
-use Prim.Native.Nat.{◌-◌}
 use Rattle.layout.proofs.Bounds.{framed-bounded}
 use Rattle.joining.proofs.EndOfChain.{ending-starts, ending-ends, ending-out, ending-tier, ending-turns}
 use Rattle.joining.proofs.end_of_chain.Goals as goal

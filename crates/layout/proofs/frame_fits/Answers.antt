@@ -4,7 +4,8 @@ use Rattle.layout.proofs.Frames.{store_size_get}
 use Rattle.layout.proofs.frame_fits.Goals as goal
 
 pub returns-then-read_le8-end : goal.returns-then-read_le8-end
-returns-then-read_le8-end c = λ f. c.if-read_le8-end.true (c.read_le8.ensures ∙ sym (store_size_get c.args.z c.args.img.now) ∙ f.store_size_is ∙ sym c.store_end-end.ensures)
+returns-then-read_le8-end c =
+    λ f. c.if-read_le8-end.true (c.read_le8.ensures ∙ sym (store_size_get c.args.z c.args.img.now) ∙ f.store_size_is ∙ sym c.store_end-end.ensures)
 
 pub returns : goal.returns
 returns c =

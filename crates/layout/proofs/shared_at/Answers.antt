@@ -16,7 +16,8 @@ pub overflow_add-result-else-z-t : goal.overflow_add-result-else-z-t
 overflow_add-result-else-z-t c = omega (arith, header-room c.requires.framed (c.args.t - 1) (omega (arith, c.if-z-t.false, c.requires.tier)))
 
 pub overflow_add-result-else-z-t-2 : goal.overflow_add-result-else-z-t-2
-overflow_add-result-else-z-t-2 c = omega (arith, header-room c.requires.framed (c.args.t - 1) (omega (arith, c.if-z-t.false, c.requires.tier)), c.requires.header)
+overflow_add-result-else-z-t-2 c =
+    omega (arith, header-room c.requires.framed (c.args.t - 1) (omega (arith, c.if-z-t.false, c.requires.tier)), c.requires.header)
 
 pub returns-then-z-t : goal.returns-then-z-t
 returns-then-z-t c =

@@ -20,4 +20,9 @@ pub slice_bounds-list-end : goal.slice_bounds-list-end
 slice_bounds-list-end c = sym (length-take-le _ _ (there (goal.at.slice_bounds-list-end c).In-Whole))
 
 pub list-requires : goal.list-requires
-list-requires c = omega (arith, there (goal.at.list-requires c).In-Whole, length-take-le (c.in-Whole.end + 4 + c.in-Whole.n) c.read.new.buf (there (goal.at.list-requires c).In-Whole))
+list-requires c =
+    omega (
+      arith,
+      there (goal.at.list-requires c).In-Whole,
+      length-take-le (c.in-Whole.end + 4 + c.in-Whole.n) c.read.new.buf (there (goal.at.list-requires c).In-Whole),
+    )

@@ -19,7 +19,11 @@ overflow_add-n c =
     )
 
 pub next_of-t-requires : goal.next_of-t-requires
-next_of-t-requires c = (c.requires.chains.framed, chain-tier (c.requires) (tiers_in_lem c.args.z c.args.img.now c.args.s c.requires.fits c.loop-t.invariant.along c.loop-t-test.true))
+next_of-t-requires c = (
+  c.requires.chains.framed,
+  chain-tier (c.requires)
+      (tiers_in_lem c.args.z c.args.img.now c.args.s c.requires.fits c.loop-t.invariant.along c.loop-t-test.true),
+)
 
 pub loop-t-smaller : goal.loop-t-smaller
 loop-t-smaller c = tiers-less c.args.z c.args.img.now c.args.s c.requires.fits c.loop-t.invariant.along c.loop-t-test.true c.next_of-t.ensures

@@ -10,7 +10,8 @@ pub loop-t-init : goal.loop-t-init
 loop-t-init c = chaining-starts c.args.z c.args.img.now c.args.by c.args.p c.args.s (c.requires) (omega (arith, c.requires.places.two))
 
 pub pass_tier-met-requires : goal.pass_tier-met-requires
-pass_tier-met-requires c = chaining-walks c.args.z c.args.img.now c.args.by c.args.p c.args.s c.requires.pass c.loop-t.invariant c.loop-t-test.true c.requires.places
+pass_tier-met-requires c =
+    chaining-walks c.args.z c.args.img.now c.args.by c.args.p c.args.s c.requires.pass c.loop-t.invariant c.loop-t-test.true c.requires.places
 
 pub shape_of-table-in-Again : goal.shape_of-table-in-Again
 shape_of-table-in-Again c = c.pass_tier-met.auto.table ∙ c.loop-t.invariant.long
@@ -32,7 +33,8 @@ next_of-t-requires c = (
 )
 
 pub loop-t-smaller : goal.loop-t-smaller
-loop-t-smaller c = tiers-less c.args.z c.args.img.now c.args.s c.requires.pass.reads.fitting.fits c.loop-t.invariant.along c.loop-t-test.true c.next_of-t.ensures
+loop-t-smaller c =
+    tiers-less c.args.z c.args.img.now c.args.s c.requires.pass.reads.fitting.fits c.loop-t.invariant.along c.loop-t-test.true c.next_of-t.ensures
 
 pub loop-t-preserved : goal.loop-t-preserved
 loop-t-preserved c =

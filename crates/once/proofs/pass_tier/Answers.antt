@@ -12,7 +12,8 @@ pub loop-j-init : goal.loop-j-init
 loop-j-init c = tiering_starts c.args.z c.args.img.now c.args.by c.args.p c.args.s c.args.t (c.requires) c.next_in_pass-j.ensures
 
 pub meet-met-requires : goal.meet-met-requires
-meet-met-requires c = tiering_meets c.args.z c.args.img.now c.args.by c.args.p c.args.s c.args.t c.loop-j.invariant c.requires.tier c.requires.places c.loop-j-test.true
+meet-met-requires c =
+    tiering_meets c.args.z c.args.img.now c.args.by c.args.p c.args.s c.args.t c.loop-j.invariant c.requires.tier c.requires.places c.loop-j-test.true
 
 pub shape_of-table-in-Again : goal.shape_of-table-in-Again
 shape_of-table-in-Again c = c.meet-met.auto.table ∙ c.loop-j.invariant.long

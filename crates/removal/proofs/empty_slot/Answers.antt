@@ -13,10 +13,24 @@ loop-left-init c = (
 )
 
 pub slot-v-requires : goal.slot-v-requires
-slot-v-requires c = record { tier = record { framed = emptying_framed c.args.z c.args.t c.loop-left.invariant.0 c.requires.tier.framed; tier_in = c.requires.tier.tier_in }; slot_in = c.loop-left.invariant.0.i_lt }
+slot-v-requires c =
+    record {
+      tier = record {
+        framed = emptying_framed c.args.z c.args.t c.loop-left.invariant.0 c.requires.tier.framed;
+        tier_in = c.requires.tier.tier_in;
+      };
+      slot_in = c.loop-left.invariant.0.i_lt;
+    }
 
 pub put_slot-requires : goal.put_slot-requires
-put_slot-requires c = record { tier = record { framed = emptying_framed c.args.z c.args.t c.loop-left.invariant.0 c.requires.tier.framed; tier_in = c.requires.tier.tier_in }; slot_in = c.loop-left.invariant.0.hole-lt }
+put_slot-requires c =
+    record {
+      tier = record {
+        framed = emptying_framed c.args.z c.args.t c.loop-left.invariant.0 c.requires.tier.framed;
+        tier_in = c.requires.tier.tier_in;
+      };
+      slot_in = c.loop-left.invariant.0.hole-lt;
+    }
 
 pub shape_of-img-then-v-eq0 : goal.shape_of-img-then-v-eq0
 shape_of-img-then-v-eq0 c =
@@ -33,7 +47,14 @@ pub stays-requires : goal.stays-requires
 stays-requires c = (c.requires.tier.framed.valid, c.loop-left.invariant.0.hole-lt, c.loop-left.invariant.0.i_lt)
 
 pub put_slot-requires-then-not-stays : goal.put_slot-requires-then-not-stays
-put_slot-requires-then-not-stays c = record { tier = record { framed = emptying_framed c.args.z c.args.t c.loop-left.invariant.0 c.requires.tier.framed; tier_in = c.requires.tier.tier_in }; slot_in = c.loop-left.invariant.0.hole-lt }
+put_slot-requires-then-not-stays c =
+    record {
+      tier = record {
+        framed = emptying_framed c.args.z c.args.t c.loop-left.invariant.0 c.requires.tier.framed;
+        tier_in = c.requires.tier.tier_in;
+      };
+      slot_in = c.loop-left.invariant.0.hole-lt;
+    }
 
 pub step-cursor-requires-in-loop-left : goal.step-cursor-requires-in-loop-left
 step-cursor-requires-in-loop-left c = omega (arith, c.loop-left.invariant.0.i_lt, c.loop-left.invariant.1)
@@ -55,7 +76,14 @@ loop-left-preserved c =
     )
 
 pub put_slot-requires-2 : goal.put_slot-requires-2
-put_slot-requires-2 c = record { tier = record { framed = emptying_framed c.args.z c.args.t c.loop-left.invariant.0 c.requires.tier.framed; tier_in = c.requires.tier.tier_in }; slot_in = c.loop-left.invariant.0.hole-lt }
+put_slot-requires-2 c =
+    record {
+      tier = record {
+        framed = emptying_framed c.args.z c.args.t c.loop-left.invariant.0 c.requires.tier.framed;
+        tier_in = c.requires.tier.tier_in;
+      };
+      slot_in = c.loop-left.invariant.0.hole-lt;
+    }
 
 pub shape_of-img : goal.shape_of-img
 shape_of-img c = emptying_long c.args.z c.args.t c.loop-left.invariant.0 _ c.put_slot-2.ensures

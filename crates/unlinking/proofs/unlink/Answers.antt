@@ -37,5 +37,10 @@ put_used_tiers-requires c = framed-again (c.put_first_free.auto.img ∙ c.put_ne
 pub returns : goal.returns
 returns c =
     unlinked c.args.z c.args.img.now c.args.t
-    (record { next_is = c.next_of-next.ensures; counters_is = c.read-counters.ensures; free_is = c.first_free-free.ensures; used_is = c.used_tiers-used.ensures })
+    (record {
+      next_is = c.next_of-next.ensures;
+      counters_is = c.read-counters.ensures;
+      free_is = c.first_free-free.ensures;
+      used_is = c.used_tiers-used.ensures;
+    })
     c.close_up.ensures c.put_next.ensures c.put_next-2.ensures c.put_first_free.ensures c.put_used_tiers.ensures

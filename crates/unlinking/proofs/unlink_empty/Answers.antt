@@ -15,7 +15,8 @@ count_of-requires c = count-asks c.args.z c.args.img.now c.args.t (omega (arith,
 pub returns-then-count_of-ne0 : goal.returns-then-count_of-ne0
 returns-then-count_of-ne0 c =
     let extra : c.args.z.settings.segments < c.args.t = omega (arith, c.if-t-z.false) in
-    sym (full-stays c.args.z c.args.img.now c.args.t extra (λ e. c.if-count_of-ne0.true (c.count_of.ensures ∙ count-is c.args.z c.args.img.now c.args.t extra c.requires ∙ e)))
+    sym (full-stays c.args.z c.args.img.now c.args.t extra
+    (λ e. c.if-count_of-ne0.true (c.count_of.ensures ∙ count-is c.args.z c.args.img.now c.args.t extra c.requires ∙ e)))
 
 pub unlink-requires : goal.unlink-requires
 unlink-requires c = unlink-asks c.args.z c.args.img.now c.args.t (omega (arith, c.if-t-z.false)) c.requires
@@ -23,5 +24,6 @@ unlink-requires c = unlink-asks c.args.z c.args.img.now c.args.t (omega (arith, 
 pub returns : goal.returns
 returns c =
     let extra : c.args.z.settings.segments < c.args.t = omega (arith, c.if-t-z.false) in
-    let none : length (full_slots c.args.z c.args.img.now c.args.t) ≡ 0 = sym (count-is c.args.z c.args.img.now c.args.t extra c.requires) ∙ sym c.count_of.ensures ∙ c.if-count_of-ne0.false in
+    let none : length (full_slots c.args.z c.args.img.now c.args.t) ≡ 0 = sym (count-is c.args.z c.args.img.now c.args.t extra c.requires) ∙ sym
+    c.count_of.ensures ∙ c.if-count_of-ne0.false in
     c.unlink.ensures ∙ sym (empty-goes c.args.z c.args.img.now c.args.t extra none)

@@ -12,7 +12,8 @@ loop-left-init c = (
 )
 
 pub returns-then-v-eq0 : goal.returns-then-v-eq0
-returns-then-v-eq0 c = tier-empty c.args.z c.args.img.now c.args.key.now c.args.t c.loop-left.invariant.0 c.loop-left-test.true c.slot-v.result c.slot-v.ensures c.if-v-eq0.true
+returns-then-v-eq0 c =
+    tier-empty c.args.z c.args.img.now c.args.key.now c.args.t c.loop-left.invariant.0 c.loop-left-test.true c.slot-v.result c.slot-v.ensures c.if-v-eq0.true
 
 pub returns-in-Same : goal.returns-in-Same
 returns-in-Same c =

@@ -77,5 +77,9 @@ returns c =
     let w = stored-both-read c.args.z c.args.img.now c.args.t c.args.c d f in (
       w,
       measured-reads c.args.z c.args.img.now c.args.t c.args.c w
-          (record { some_byte = omega (arith, c.if-k-lt1.false); key_not_longer = omega (arith, c.if-k-gt-LONGEST_KEY.false); ends = omega (arith, c.chunk_at-end.ensures) }),
+          (record {
+            some_byte = omega (arith, c.if-k-lt1.false);
+            key_not_longer = omega (arith, c.if-k-gt-LONGEST_KEY.false);
+            ends = omega (arith, c.chunk_at-end.ensures);
+          }),
     )

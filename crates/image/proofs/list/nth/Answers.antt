@@ -10,7 +10,9 @@ settled-c-requires c =
     }
 
 pub returns-then-c-eq0 : goal.returns-then-c-eq0
-returns-then-c-eq0 c = picks-after c.args.z c.args.img.now (omega (arith, c.requires.0.valid.segments)) c.start.ensures c.settled-c.ensures.0 (c.settled-c.ensures.1.none c.if-c-eq0.true)
+returns-then-c-eq0 c =
+    picks-after c.args.z c.args.img.now (omega (arith, c.requires.0.valid.segments)) c.start.ensures c.settled-c.ensures.0
+    (c.settled-c.ensures.1.none c.if-c-eq0.true)
 
 pub entry-requires : goal.entry-requires
 entry-requires c = (c.requires.0, c.settled-c.ensures.1.on_full c.if-c-eq0.false)

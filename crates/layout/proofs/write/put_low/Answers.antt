@@ -11,7 +11,9 @@ pub write_le-requires-else-t-z : goal.write_le-requires-else-t-z
 write_le-requires-else-t-z c = (shared-bytes c.requires lowestFree low c.shared_at-at.ensures (shared-wide-extra _ _ _ _ c.if-t-z.false)).within
 
 pub returns-then-t-z : goal.returns-then-t-z
-returns-then-t-z c = c.write_le.ensures ∙ put_le-place (shared-bytes c.requires lowestFree low c.shared_at-at.ensures (shared-wide-main _ _ _ _ c.if-t-z.true)) _ _
+returns-then-t-z c =
+    c.write_le.ensures ∙ put_le-place (shared-bytes c.requires lowestFree low c.shared_at-at.ensures (shared-wide-main _ _ _ _ c.if-t-z.true)) _ _
 
 pub returns-else-t-z : goal.returns-else-t-z
-returns-else-t-z c = c.write_le-else-t-z.ensures ∙ put_le-place (shared-bytes c.requires lowestFree low c.shared_at-at.ensures (shared-wide-extra _ _ _ _ c.if-t-z.false)) _ _
+returns-else-t-z c =
+    c.write_le-else-t-z.ensures ∙ put_le-place (shared-bytes c.requires lowestFree low c.shared_at-at.ensures (shared-wide-extra _ _ _ _ c.if-t-z.false)) _ _

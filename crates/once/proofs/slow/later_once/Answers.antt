@@ -47,7 +47,8 @@ next_of-t-requires-in-loop-t c = (
 )
 
 pub loop-t-smaller : goal.loop-t-smaller
-loop-t-smaller c = tiers-less c.args.z c.args.img.now c.args.s c.requires.reads.fitting.fits c.loop-t.invariant.along c.loop-t-test.true c.next_of-t-in-loop-t.ensures
+loop-t-smaller c =
+    tiers-less c.args.z c.args.img.now c.args.s c.requires.reads.fitting.fits c.loop-t.invariant.along c.loop-t-test.true c.next_of-t-in-loop-t.ensures
 
 pub loop-t-preserved : goal.loop-t-preserved
 loop-t-preserved c =

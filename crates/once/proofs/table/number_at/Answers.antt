@@ -18,4 +18,5 @@ pub slice_bounds-xxh64-end : goal.slice_bounds-xxh64-end
 slice_bounds-xxh64-end c = omega (arith, part-inside (c.requires) c.slot_chunk.ensures c.key_part-key.ensures)
 
 pub returns : goal.returns
-returns c = ap (λ (h : ℕ). h / 256) c.xxh64.ensures ∙ number-hash (c.requires) c.slot_chunk.ensures c.key_part-key.ensures c.args.by (not-false _ c.if-not-by.false)
+returns c =
+    ap (λ (h : ℕ). h / 256) c.xxh64.ensures ∙ number-hash (c.requires) c.slot_chunk.ensures c.key_part-key.ensures c.args.by (not-false _ c.if-not-by.false)

@@ -40,7 +40,8 @@ returns-then-w-eq0 c =
     (seek-empty _ _ _ _ w _ refl c.if-w-eq0.true ∙ ap (seek _ _ _) from, w.lt)
 
 pub refers_to_key-requires : goal.refers_to_key-requires
-refers_to_key-requires c = record { slot = c.requires.slot; other = c.requires.refers c.loop-left.cursor.slot (c.loop-left.invariant.0 c.args.by).lt c.if-w-eq0.false }
+refers_to_key-requires c =
+    record { slot = c.requires.slot; other = c.requires.refers c.loop-left.cursor.slot (c.loop-left.invariant.0 c.args.by).lt c.if-w-eq0.false }
 
 pub returns-then-refers_to_key : goal.returns-then-refers_to_key
 unfolding seek_ref
@@ -56,7 +57,8 @@ step-cursor-requires c = omega (arith, (c.loop-left.invariant.0 c.args.by).lt, c
 pub loop-left-preserved : goal.loop-left-preserved
 loop-left-preserved c =
     let next-is = c.step-cursor.ensures.0 ∙ ap (λ (n : ℕ). next n c.loop-left.cursor.slot) c.loop-left.invariant.1 in (
-      λ by. seek-turns _ _ _ _ (c.loop-left.invariant.0 by) _ refl c.requires.places.two c.if-w-eq0.false (sym c.refers_to_key.ensures ∙ c.if-refers_to_key.false)
+      λ by. seek-turns _ _ _ _ (c.loop-left.invariant.0 by) _ refl c.requires.places.two c.if-w-eq0.false
+          (sym c.refers_to_key.ensures ∙ c.if-refers_to_key.false)
           (omega (arith, c.loop-left-test.true)) c.step-cursor.result.slot next-is,
       c.step-cursor.ensures.1 ∙ c.loop-left.invariant.1,
     )

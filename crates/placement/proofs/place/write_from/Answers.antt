@@ -8,7 +8,8 @@ use Rattle.placement.proofs.Written.{written-inside}
 use Rattle.placement.proofs.place.write_from.Goals as goal
 
 pub chunk_at-at-requires : goal.chunk_at-at-requires
-chunk_at-at-requires c = record { framed = framed-largest c.requires.tier.framed; tier = c.requires.tier.tier_in; within = omega (arith, c.requires.range_ends) }
+chunk_at-at-requires c =
+    record { framed = framed-largest c.requires.tier.framed; tier = c.requires.tier.tier_in; within = omega (arith, c.requires.range_ends) }
 
 pub write_entry-requires : goal.write_entry-requires
 write_entry-requires c = omega (arith, written-inside c.requires, c.chunk_at-at.ensures)

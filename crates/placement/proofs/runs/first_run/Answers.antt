@@ -34,7 +34,8 @@ pub loop-k-smaller : goal.loop-k-smaller
 loop-k-smaller c = omega arith
 
 pub loop-k-preserved : goal.loop-k-preserved
-loop-k-preserved c = seeking-turns _ _ _ _ _ c.loop-k.invariant c.loop-k-test.true c.if-t-eq0.false (sym c.run_in-run.ensures ∙ c.in-Nowhere.is) c.next_of-t.ensures
+loop-k-preserved c =
+    seeking-turns _ _ _ _ _ c.loop-k.invariant c.loop-k-test.true c.if-t-eq0.false (sym c.run_in-run.ensures ∙ c.in-Nowhere.is) c.next_of-t.ensures
 
 pub returns : goal.returns
 returns c = seeking-out _ _ _ _ _ c.loop-k.invariant c.loop-k-test.false

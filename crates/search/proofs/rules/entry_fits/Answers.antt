@@ -31,7 +31,8 @@ pub value_fits-requires : goal.value_fits-requires
 value_fits-requires c = (c.requires.tier.framed.valid, (sound (held c.slot-v.ensures c.slot_chunk-c.ensures c.stored.ensures c.in-Whole.is)).key_small)
 
 pub returns-in_default-value_fits : goal.returns-in_default-value_fits
-returns-in_default-value_fits c = value-wrong (held c.slot-v.ensures c.slot_chunk-c.ensures c.stored.ensures c.in-Whole.is) (size-broken c.value_fits.ensures c.in_default-value_fits.is)
+returns-in_default-value_fits c =
+    value-wrong (held c.slot-v.ensures c.slot_chunk-c.ensures c.stored.ensures c.in-Whole.is) (size-broken c.value_fits.ensures c.in_default-value_fits.is)
 
 pub overflow_add-c : goal.overflow_add-c
 overflow_add-c c =
@@ -41,7 +42,8 @@ overflow_add-c c =
     omega (arith, whole_chunk _ _ _ _ (sound h), size.0.not_too_many, size.1, valid.chunks, valid.mostChunks)
 
 pub returns-then-st-c : goal.returns-then-st-c
-returns-then-st-c c = too_far (held c.slot-v.ensures c.slot_chunk-c.ensures c.stored.ensures c.in-Whole.is) (size-told c.value_fits.ensures c.in-Fits.is).1 c.if-st-c.true
+returns-then-st-c c =
+    too_far (held c.slot-v.ensures c.slot_chunk-c.ensures c.stored.ensures c.in-Whole.is) (size-told c.value_fits.ensures c.in-Fits.is).1 c.if-st-c.true
 
 pub hash_agrees-requires : goal.hash_agrees-requires
 hash_agrees-requires c =
@@ -62,4 +64,5 @@ returns c =
     let key = decided_true c.key_fits.result c.key_fits.ensures c.if-not-key_fits.false in
     let hash = decided_true c.hash_agrees.result c.hash_agrees.ensures c.if-not-hash_agrees.false in
     entry-says h size.1
-    (entry-right h (sym c.slot_rest.ensures ∙ c.if-slot_rest-ne0.false) (subst (KeyFits c.args.z.settings) (key-taken h) key) size.0 size.1 c.if-st-c.false hash)
+    (entry-right h (sym c.slot_rest.ensures ∙ c.if-slot_rest-ne0.false) (subst (KeyFits c.args.z.settings) (key-taken h) key) size.0 size.1
+    c.if-st-c.false hash)

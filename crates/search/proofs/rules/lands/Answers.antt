@@ -38,14 +38,16 @@ pub overflow_add-to : goal.overflow_add-to
 overflow_add-to c =
     let key =
     entry-has-key c.args.z c.args.img.now c.args.t c.args.j
-    (record { framed = c.requires.slot.tier.chains.framed; tier_in = c.requires.slot.tier.tier_in }) c.requires.fits.whole c.entry_at-e.result c.entry_at-e.ensures in
+    (record { framed = c.requires.slot.tier.chains.framed; tier_in = c.requires.slot.tier.tier_in }) c.requires.fits.whole c.entry_at-e.result
+    c.entry_at-e.ensures in
     omega (arith, key.key_inside, key.framed.small)
 
 pub slice_bounds-comes_to-end : goal.slice_bounds-comes_to-end
 slice_bounds-comes_to-end c =
     let key =
     entry-has-key c.args.z c.args.img.now c.args.t c.args.j
-    (record { framed = c.requires.slot.tier.chains.framed; tier_in = c.requires.slot.tier.tier_in }) c.requires.fits.whole c.entry_at-e.result c.entry_at-e.ensures in
+    (record { framed = c.requires.slot.tier.chains.framed; tier_in = c.requires.slot.tier.tier_in }) c.requires.fits.whole c.entry_at-e.result
+    c.entry_at-e.ensures in
     omega (arith, key.key_inside)
 
 pub comes_to-requires : goal.comes_to-requires

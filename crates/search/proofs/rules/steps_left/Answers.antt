@@ -82,7 +82,8 @@ loop-cursor-preserved c =
           hits-differs c.args.z c.args.img.now (keyAt c.args.z c.args.img.now c.args.t c.args.j) c.args.t c.slot-other.result _ looks
           (λ q. h.if-slot_key-lookup.false (c.slot_key.ensures ∙ q))
     ] in
-    let fewer : c.if-slot_key-lookup.left ≤ c.loop-cursor.left = elim c.if-slot_key-lookup.branch [ then-slot_key-lookup+else-same_hit+else-left-le-STEPS_OF_A_KEY h ↦ omega (arith, h.left-is) | else-slot_key-lookup h ↦ omega (arith, h.left-is) ] in (
+    let fewer : c.if-slot_key-lookup.left ≤ c.loop-cursor.left = elim c.if-slot_key-lookup.branch
+    [ then-slot_key-lookup+else-same_hit+else-left-le-STEPS_OF_A_KEY h ↦ omega (arith, h.left-is) | else-slot_key-lookup h ↦ omega (arith, h.left-is) ] in (
       walking_turns c.args.z c.args.img.now c.args.t c.args.j _ c.loop-cursor.invariant.0 c.loop-cursor-test.true (omega (arith, two)) _ next-is
           c.slot-other.ensures miss,
       (c.step-cursor.ensures.1 ∙ c.loop-cursor.invariant.1.0, omega (arith, c.loop-cursor.invariant.1.1, fewer)),

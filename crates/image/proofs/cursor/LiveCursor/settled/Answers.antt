@@ -12,13 +12,17 @@ pub in_chain-c-requires : goal.in_chain-c-requires
 in_chain-c-requires c = (c.requires.chains.framed, c.loop-c.invariant.in_chain)
 
 pub returns-then-c-ne0 : goal.returns-then-c-ne0
-returns-then-c-ne0 c = (moves_more c.args.z c.args.img.now c.loop-c.invariant c.in_chain-c.ensures.0, record { on_full = c.in_chain-c.ensures.2; none = λ e. absurd (c.if-c-ne0.true e) })
+returns-then-c-ne0 c = (
+  moves_more c.args.z c.args.img.now c.loop-c.invariant c.in_chain-c.ensures.0,
+  record { on_full = c.in_chain-c.ensures.2; none = λ e. absurd (c.if-c-ne0.true e) },
+)
 
 pub overflow_add-c : goal.overflow_add-c
 overflow_add-c c = omega arith
 
 pub returns-then-z-c : goal.returns-then-z-c
-returns-then-z-c c = (moves_more c.args.z c.args.img.now c.loop-c.invariant c.in_chain-c.ensures.0, settled-end c.args.z c.args.img.now c.if-c-ne0.false c.if-z-c.true)
+returns-then-z-c c =
+    (moves_more c.args.z c.args.img.now c.loop-c.invariant c.in_chain-c.ensures.0, settled-end c.args.z c.args.img.now c.if-c-ne0.false c.if-z-c.true)
 
 pub overflow_add-c-in-loop-c : goal.overflow_add-c-in-loop-c
 overflow_add-c-in-loop-c c = omega arith
