@@ -42,15 +42,16 @@ target/bin/lister: $(SOURCES)
 	cd crates/lister && rt run < stdin
 	cp crates/lister/out/lister $@
 
-# Nothing but the functions of the header is exported, and nothing but the C library is needed.
+# Nothing but the functions of the header is exported, and nothing but the C library is needed. Its other two names are copies here, since
+# rt ci refuses links in a checkout; what is installed has links.
 ifneq ($(shell command -v gcc 2> /dev/null),)
 $(SHARED): $(ARCHIVE)
 	mkdir -p $(@D)
 	echo '{ global: chronicle_map_*; local: *; };' > $(@D)/exports.map
 	gcc -shared -o $@ -Wl,-soname,libchronicle_map.so.$(MAJOR) -Wl,--version-script,$(@D)/exports.map -Wl,--strip-debug \
 		-Wl,-z,defs,-z,relro,-z,now,-z,noexecstack -Wl,--whole-archive $(ARCHIVE) -Wl,--no-whole-archive
-	ln -sf $(@F) $(@D)/libchronicle_map.so.$(MAJOR)
-	ln -sf libchronicle_map.so.$(MAJOR) $(@D)/libchronicle_map.so
+	cp $@ $(@D)/libchronicle_map.so.$(MAJOR)
+	cp $@ $(@D)/libchronicle_map.so
 else
 $(SHARED): $(ARCHIVE)
 	@rm -f $@ $(@D)/libchronicle_map.so $(@D)/libchronicle_map.so.$(MAJOR)

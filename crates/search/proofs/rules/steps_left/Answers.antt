@@ -10,7 +10,7 @@ use Rattle.search.specs.Rules.{keyAt}
 use Rattle.search.proofs.Seeking.{hits-differs}
 use Rattle.search.proofs.Reaching.{walking_starts, walking_ends, walking_nearer, walking_turns}
 use Rattle.search.proofs.rules.steps_left.Goals as goal
-use Rattle.search.proofs.rules.steps_left.Goals.{then-slot_key-lookup+else-same_hit+else-left-le-STEPS_OF_A_KEY, else-slot_key-lookup}
+use Rattle.std.proofs.lemmas.Grind.{common_steps}
 
 pub loop-cursor-init : goal.loop-cursor-init
 loop-cursor-init c =
@@ -56,13 +56,6 @@ overflow_sub-left c = omega (arith, c.if-left-le-STEPS_OF_A_KEY.false)
 pub step-cursor-requires : goal.step-cursor-requires
 step-cursor-requires c = omega (arith, c.loop-cursor.invariant.0.lt, c.loop-cursor.invariant.1.0)
 
-pub overflow_sub-left-in-loop-cursor : goal.overflow_sub-left-in-loop-cursor
-overflow_sub-left-in-loop-cursor c =
-    elim c.if-slot_key-lookup.branch [
-      | then-slot_key-lookup+else-same_hit+else-left-le-STEPS_OF_A_KEY h ↦ omega (arith, h.if-left-le-STEPS_OF_A_KEY.false, h.left-is)
-      | else-slot_key-lookup h ↦ omega (arith, h.left-is, c.if-left-eq0.false)
-    ]
-
 pub loop-cursor-smaller : goal.loop-cursor-smaller
 loop-cursor-smaller c =
     let next-is = c.step-cursor.ensures.0 ∙ ap (λ (n : ℕ). next n c.loop-cursor.cursor.slot) c.loop-cursor.invariant.1.0 in
@@ -76,14 +69,9 @@ loop-cursor-preserved c =
     let two = c.requires.slot.tier.chains.framed.valid.slots in
     let looks = c.slot_key-lookup.ensures ∙ ap (slot_key c.args.z.settings) c.slot.ensures ∙ sym c.requires.fits.hashed.lookup_agrees in
     let miss : hits c.args.z c.args.img.now (keyAt c.args.z c.args.img.now c.args.t c.args.j) c.args.t c.slot-other.result ≡ false =
-    elim c.if-slot_key-lookup.branch [
-      | then-slot_key-lookup+else-same_hit+else-left-le-STEPS_OF_A_KEY h ↦ sym h.same_hit.ensures ∙ h.if-same_hit.false
-      | else-slot_key-lookup h ↦
-          hits-differs c.args.z c.args.img.now (keyAt c.args.z c.args.img.now c.args.t c.args.j) c.args.t c.slot-other.result _ looks
-          (λ q. h.if-slot_key-lookup.false (c.slot_key.ensures ∙ q))
-    ] in
-    let fewer : c.if-slot_key-lookup.left ≤ c.loop-cursor.left = elim c.if-slot_key-lookup.branch
-    [ then-slot_key-lookup+else-same_hit+else-left-le-STEPS_OF_A_KEY h ↦ omega (arith, h.left-is) | else-slot_key-lookup h ↦ omega (arith, h.left-is) ] in (
+    let differs = hits-differs c.args.z c.args.img.now (keyAt c.args.z c.args.img.now c.args.t c.args.j) c.args.t c.slot-other.result _ looks in
+    grind (arith, common_steps, differs) in
+    let fewer : c.if-slot_key-lookup.left ≤ c.loop-cursor.left = grind (arith, common_steps) in (
       walking_turns c.args.z c.args.img.now c.args.t c.args.j _ c.loop-cursor.invariant.0 c.loop-cursor-test.true (omega (arith, two)) _ next-is
           c.slot-other.ensures miss,
       (c.step-cursor.ensures.1 ∙ c.loop-cursor.invariant.1.0, omega (arith, c.loop-cursor.invariant.1.1, fewer)),
