@@ -17,7 +17,7 @@ use Rattle.chains.specs.declared.Walked.{Walked}
 use Rattle.chains.specs.declared.Walked.TheVariants.{Ended, Lost}
 use Rattle.chains.specs.Chains.{follow, free_head, free_chain, chained, chained_extra, extra_tiers, ChainFits, Once, chains_of}
 use Rattle.chains.specs.Walk.{tally, Met, Extras, Walks, extras_before, AllWalk, counts, Counting}
-use Rattle.chains.proofs.Tally.{tally-append, length-tally, get_d_tally, zeros-met}
+use Rattle.chains.proofs.Tally.{tally-append, length-tally, get_or-tally, zeros-met}
 use Rattle.chains.proofs.Walking.{told-ended, told-lost}
 use Rattle.chains.proofs.Segments.{before-all, before-short, met-before}
 use Rattle.chains.proofs.Answer.{chains-fit, chains-broken, chained-length, free-extras, free-fits}
@@ -92,7 +92,7 @@ module _ {z : Shape} {img times₁ : List ℕ} {r₁ : Walked} (fr : Framed z (l
             omega (
               arith,
               ap (λ (r : List ℕ). get_or r t 0) e,
-              get_d_tally no_times (chained_extra z img ++ free_chain z img) t (omega (arith, length-replicate {A = ℕ} counts 0)),
+              get_or-tally no_times (chained_extra z img ++ free_chain z img) t (omega (arith, length-replicate {A = ℕ} counts 0)),
               zeros-met counts t,
             )
 

@@ -22,16 +22,16 @@ unfolding tally
 length-tally times [] = refl
 length-tally times (t ∷ ts) = length-tally (set times t (get_or times t 0 + 1)) ts ∙ length-set times t _
 
-pub get_d_tally : (times ts : List ℕ) (t : ℕ) → t < length times → get_or (tally times ts) t 0 ≡ get_or times t 0 + how_many ts (eqb t)
+pub get_or-tally : (times ts : List ℕ) (t : ℕ) → t < length times → get_or (tally times ts) t 0 ≡ get_or times t 0 + how_many ts (eqb t)
 unfolding tally those
-get_d_tally times [] t h = omega arith
-get_d_tally times (x ∷ ts) t h =
+get_or-tally times [] t h = omega arith
+get_or-tally times (x ∷ ts) t h =
     ⊎_elim
     (λ (e : t ≡ x).
-    get_d_tally (set times x (get_or times x 0 + 1)) ts t (rw length-set h)
+    get_or-tally (set times x (get_or times x 0 + 1)) ts t (rw length-set h)
     ∙ rw (how_many-same t x ts e) (rw (← e, get_or-set_same times t (get_or times t 0 + 1) 0 h) (omega arith)))
     (λ (e : t ≢ x).
-    get_d_tally (set times x (get_or times x 0 + 1)) ts t (rw length-set h)
+    get_or-tally (set times x (get_or times x 0 + 1)) ts t (rw length-set h)
     ∙ rw (get_or-set_other times x t (get_or times x 0 + 1) 0 e, how_many-other t x ts e))
     (same_or t x)
 
@@ -39,7 +39,7 @@ get_d_tally times (x ∷ ts) t h =
 pub met-tally : (times ts : List ℕ) (n : ℕ) → MetAtMost times n → MetAtMost (tally times ts) (n + length ts)
 met-tally times ts n met u =
     ⊎_elim
-    (λ (l : u < length times). omega (arith, get_d_tally times ts u l, met u, how_many-le (eqb u) ts))
+    (λ (l : u < length times). omega (arith, get_or-tally times ts u l, met u, how_many-le (eqb u) ts))
     (λ (l : length times ≤ u).
     let k : length (tally times ts) ≤ u = omega (arith, length-tally times ts) in
     rw (get_or-eq_default (tally times ts) 0 k) (omega arith))

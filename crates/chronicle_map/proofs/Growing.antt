@@ -29,7 +29,7 @@ use Rattle.entries.proofs.Hashes.{segment-lt}
 use Rattle.sound.specs.Sound.{SoundImage}
 use Rattle.growing.specs.Growing.{grown, no_bulk, grow_image}
 use Rattle.growing.proofs.Sound.{grow-sound, grow-chain, grow-free, grow-head, grow-live, grow-pair, grow-pairs, grow_last, grow-empty, grow-bits}
-use Rattle.growing.proofs.Bytes.{get_d_grow-out}
+use Rattle.growing.proofs.Bytes.{get_or-grow-out}
 use Rattle.image.specs.List.{pick, from_nth, from_examined, entry}
 use Rattle.edit.specs.declared.Policy.{Policy}
 use Rattle.edit.specs.Edits.{find}
@@ -131,7 +131,7 @@ module _ (block img : List ℕ) (h : Holds block img) where
           one_more = sym shape_is;
           same_chains = λ s l. ap (λ (x : Shape). chain x after s) (sym shape_is) ∙ grow-chain z img h.sound room s l;
           free_tiers = ap (λ (x : Shape). free_chain x after) (sym shape_is) ∙ grow-free z img h.sound room;
-          bytes_kept = λ i off. get_d_grow-out z img i (λ p w. subst (λ (x : Shape). Apart i 1 (at x p) (wide x p)) (sym shape_is) (off p w));
+          bytes_kept = λ i off. get_or-grow-out z img i (λ p w. subst (λ (x : Shape). Apart i 1 (at x p) (wide x p)) (sym shape_is) (off p w));
           bits_kept = λ t i new past within.
               ap (λ (x : Shape). mark x after t i) (sym shape_is) ∙ grow-bits z img h.sound room t i new past within
               ∙ ap (λ (x : Shape). mark x img t i) shape_is;

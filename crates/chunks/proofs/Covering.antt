@@ -13,7 +13,7 @@ use Rattle.lists.specs.Lists.{span, those, how_many}
 use Rattle.lists.proofs.Lists.{span_more, how_many-append, flat_map_last}
 use Rattle.layout.specs.declared.Shape.{Shape}
 use Rattle.chains.specs.Walk.{tally, MetAtMost}
-use Rattle.chains.proofs.Tally.{tally-append, length-tally, get_d_tally}
+use Rattle.chains.proofs.Tally.{tally-append, length-tally, get_or-tally}
 use Rattle.entries.specs.declared.Live.{Live}
 use Rattle.entries.specs.Stored.{chunks_for}
 use Rattle.entries.specs.Live.{slot_at, chunk_of, entry_at, live_at}
@@ -41,7 +41,7 @@ module _ {before : List ℕ} {c n : ℕ} {now : List ℕ} {i : ℕ} (w : Countin
       omega (
         arith,
         ap (λ (r : List ℕ). get_or r (c + i) 0) w.counted,
-        get_d_tally before (span c i) (c + i) h,
+        get_or-tally before (span c i) (c + i) h,
         how_many-span-after c i (c + i) (omega arith),
         b (c + i),
       )

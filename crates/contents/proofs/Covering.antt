@@ -18,7 +18,7 @@ use Rattle.lists.proofs.Rows.{FirstOf, those-first}
 use Rattle.lists.proofs.Lists.{how_many-le, length-span}
 use Rattle.layout.specs.declared.Shape.{Shape}
 use Rattle.chains.specs.Walk.{tally, MetAtMost}
-use Rattle.chains.proofs.Tally.{tally-append, length-tally, get_d_tally}
+use Rattle.chains.proofs.Tally.{tally-append, length-tally, get_or-tally}
 use Rattle.entries.specs.declared.Live.{Live}
 use Rattle.entries.specs.Live.{slot_at, full_slots, live_at, live_in}
 use Rattle.entries.proofs.LiveLists.{full_slots_in}
@@ -112,7 +112,7 @@ module _ (z : Shape) (img : List ℕ) (s t : ℕ) (list : List ℕ) (full : ℕ)
           omega (
             arith,
             ap (λ (r : List ℕ). get_or r k 0) w.counted,
-            get_d_tally before (chunks_of_all (live_upto i)) k h,
+            get_or-tally before (chunks_of_all (live_upto i)) k h,
             zeros k,
             covered-by k (live_upto i),
             how_many-le (covers k) (live_upto i),

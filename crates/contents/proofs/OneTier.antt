@@ -10,7 +10,7 @@ use Rattle.lists.specs.Quantify.{Every}
 use Rattle.layout.specs.declared.Shape.{Shape}
 use Rattle.layout.specs.Places.{get, count_place}
 use Rattle.chains.specs.Walk.{tally}
-use Rattle.chains.proofs.Tally.{length-tally, get_d_tally, zeros-met}
+use Rattle.chains.proofs.Tally.{length-tally, get_or-tally, zeros-met}
 use Rattle.entries.specs.Live.{full_slots, live_in}
 use Rattle.entries.proofs.LiveLists.{full_slots_in, in_full_slots}
 use Rattle.search.specs.Rules.{SomeEmpty, TierSlotsFit}
@@ -75,7 +75,7 @@ module _ (z : Shape) (img : List ℕ) (s t : ℕ) where
         omega (
           arith,
           ap (λ (r : List ℕ). get_or r i 0) v,
-          get_d_tally (replicate 4096 0) (chunks_of_all (live_in z img s t)) i l,
+          get_or-tally (replicate 4096 0) (chunks_of_all (live_in z img s t)) i l,
           zeros-met 4096 i,
           covered-by i (live_in z img s t),
         )

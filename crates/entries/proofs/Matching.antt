@@ -9,7 +9,7 @@ use lib.ListN.{length, get_or}
 use lib.Seq.{ext_get_or}
 use Rattle.lists.specs.Cases.{lt-or, same_or}
 use Rattle.words.specs.Bytes.{Bytes, cut, same}
-use Rattle.words.proofs.Bytes.{length_cut, get_d_cut, same-eq, same_false}
+use Rattle.words.proofs.Bytes.{length_cut, get_or-cut, same-eq, same_false}
 use Rattle.words.specs.Numbers.{le}
 use Rattle.words.proofs.Numbers.{le_same, le-inj}
 use Rattle.entries.specs.Asking.{Agree}
@@ -39,19 +39,19 @@ module _ (l : List ℕ) (at n : ℕ) (key : List ℕ) (room : at + n ≤ length 
   length-differs ne = same_false (cut l at n) key (λ e. ne (sym (length_cut l at n room) ∙ ap length e))
 
   pub byte-differs : (i : ℕ) → i < n → get_or l (at + i) 0 ≢ get_or key i 0 → same (cut l at n) key ≡ false
-  byte-differs i h ne = same_false (cut l at n) key (λ e. ne (sym (get_d_cut l at n i h) ∙ ap (λ (r : List ℕ). get_or r i 0) e))
+  byte-differs i h ne = same_false (cut l at n) key (λ e. ne (sym (get_or-cut l at n i h) ∙ ap (λ (r : List ℕ). get_or r i 0) e))
 
   -- bytes among the first ones differ
   pub some-differ : (i : ℕ) → i ≤ n → (Agree l at key i → ⊥) → same (cut l at n) key ≡ false
   some-differ i h ne =
       same_false (cut l at n) key
-      (λ e. ne (λ j k. sym (get_d_cut l at n j (omega arith)) ∙ ap (λ (r : List ℕ). get_or r j 0) e))
+      (λ e. ne (λ j k. sym (get_or-cut l at n j (omega arith)) ∙ ap (λ (r : List ℕ). get_or r j 0) e))
 
   pub all_same : {i : ℕ} → Matching l at n key i → n ≤ i → same (cut l at n) key ≡ true
   all_same {i} m h =
       let long : length (cut l at n) ≡ n = length_cut l at n room in
       same-eq (cut l at n) key
-      (ext_get_or 0 _ _ (long ∙ m.long) (λ j k. get_d_cut l at n j (omega arith) ∙ m.is j (omega arith)))
+      (ext_get_or 0 _ _ (long ∙ m.long) (λ j k. get_or-cut l at n j (omega arith) ∙ m.is j (omega arith)))
 
 -- ---- eight bytes at a time
 

@@ -8,9 +8,9 @@ use Rattle.lists.specs.Quantify.{every-cons, every-none}
 use Rattle.words.specs.Bytes.{Apart}
 use Rattle.layout.specs.declared.Shape.{Shape}
 use Rattle.layout.specs.Places.{bulkCount, firstFree, storeSize, slot, counter, free, Place, global, tier, at, wide}
-use Rattle.layout.proofs.Places.{get_d_puts-out}
+use Rattle.layout.proofs.Places.{get_or-puts-out}
 use Rattle.growing.specs.Growing.{grown, new_tier, new_tiers, grow_image, IsNew, GrowWrites}
-use Rattle.growing.proofs.Emptying.{Untouched, get_d_empty_tier-out}
+use Rattle.growing.proofs.Emptying.{Untouched, get_or-empty_tier-out}
 use Rattle.growing.proofs.Reshaped.{tiers-grown}
 use Rattle.growing.proofs.NewTiers.{new_next}
 
@@ -24,18 +24,18 @@ module _ (z : Shape) (img : List ℕ) (i : ℕ) (off : (p : Place) → GrowWrite
         marks = λ b l. off (tier (new_tier z k) (free b)) (new, l);
       }
 
-  get_d_new_tiers-out : (n : ℕ) → n ≤ z.settings.bulkTiers → get_or (new_tiers z img n) i 0 ≡ get_or img i 0
+  get_or-new_tiers-out : (n : ℕ) → n ≤ z.settings.bulkTiers → get_or (new_tiers z img n) i 0 ≡ get_or img i 0
   unfolding new_tiers
-  get_d_new_tiers-out zero h = refl
-  get_d_new_tiers-out (suc n) h =
-      get_d_empty_tier-out (grown z) (new_tiers z img n) (new_tier z n) (new_next z img n) i (untouched n (omega arith)) ∙ get_d_new_tiers-out n (omega arith)
+  get_or-new_tiers-out zero h = refl
+  get_or-new_tiers-out (suc n) h =
+      get_or-empty_tier-out (grown z) (new_tiers z img n) (new_tier z n) (new_next z img n) i (untouched n (omega arith)) ∙ get_or-new_tiers-out n (omega arith)
 
-  pub get_d_grow-out : get_or (grow_image z img) i 0 ≡ get_or img i 0
+  pub get_or-grow-out : get_or (grow_image z img) i 0 ≡ get_or img i 0
   unfolding grow_image
-  get_d_grow-out =
-      get_d_puts-out (grown z) _ _ i
+  get_or-grow-out =
+      get_or-puts-out (grown z) _ _ i
       (every-cons _ _ _ (off (global bulkCount) tt)
       (every-cons _ _ _ (off (global firstFree) tt)
       (every-cons _ _ _ (off (global storeSize) tt)
       (every-none _))))
-      ∙ get_d_new_tiers-out z.settings.bulkTiers (omega arith)
+      ∙ get_or-new_tiers-out z.settings.bulkTiers (omega arith)

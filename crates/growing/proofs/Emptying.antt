@@ -14,8 +14,8 @@ use Rattle.layout.specs.declared.Shape.{Shape}
 use Rattle.layout.specs.Tiers.{IsTier}
 use Rattle.layout.specs.Places.{Part, slot, counter, free, Counter, next, previous, low, segment, order, count, counter_no, Place, tier, part_wide, at, wide, In, get, mark, Write, ◌≔◌, puts}
 use Rattle.layout.specs.Frame.{Image}
-use Rattle.layout.proofs.Places.{written, length-put, image-put, get_other, length-puts, image-puts, get-puts-other, get-puts-here, get_d_put-out, get_d_puts-out, by_kind, counter-lt}
-use Rattle.layout.proofs.Marks.{NoFree, mark-get, length-put_marks, image-put_marks, get_d_put_marks-out, get-put_marks-other, mark-put_marks-out, mark-put_marks_in}
+use Rattle.layout.proofs.Places.{written, length-put, image-put, get_other, length-puts, image-puts, get-puts-other, get-puts-here, get_or-put-out, get_or-puts-out, by_kind, counter-lt}
+use Rattle.layout.proofs.Marks.{NoFree, mark-get, length-put_marks, image-put_marks, get_or-put_marks-out, get-put_marks-other, mark-put_marks-out, mark-put_marks_in}
 use Rattle.search.proofs.Slots.{slot-ne, slot_same}
 use Rattle.growing.specs.Growing.{empty_slots, empty_tier}
 
@@ -85,18 +85,18 @@ pub record Untouched (z : Shape) (t i : ℕ) : Type 0 where
   pub counters : (f : Counter) → Apart i 1 (at z (tier t (counter f))) (wide z (tier t (counter f)))
   pub marks : (b : ℕ) → 8 * b < z.settings.chunks → Apart i 1 (at z (tier t (free b))) (wide z (tier t (free b)))
 
-get_d_empty_slots-out : (z : Shape) (img : List ℕ) (t i n : ℕ) → n ≤ z.settings.slots → Untouched z t i
+get_or-empty_slots-out : (z : Shape) (img : List ℕ) (t i n : ℕ) → n ≤ z.settings.slots → Untouched z t i
     → get_or (empty_slots z img t n) i 0 ≡ get_or img i 0
 unfolding empty_slots
-get_d_empty_slots-out z img t i zero h o = refl
-get_d_empty_slots-out z img t i (suc n) h o =
-    get_d_put-out z (empty_slots z img t n) (tier t (slot n)) 0 i (o.slots n (omega arith)) ∙ get_d_empty_slots-out z img t i n (omega arith) o
+get_or-empty_slots-out z img t i zero h o = refl
+get_or-empty_slots-out z img t i (suc n) h o =
+    get_or-put-out z (empty_slots z img t n) (tier t (slot n)) 0 i (o.slots n (omega arith)) ∙ get_or-empty_slots-out z img t i n (omega arith) o
 
-pub get_d_empty_tier-out : (z : Shape) (img : List ℕ) (t u i : ℕ) → Untouched z t i → get_or (empty_tier z img t u) i 0 ≡ get_or img i 0
+pub get_or-empty_tier-out : (z : Shape) (img : List ℕ) (t u i : ℕ) → Untouched z t i → get_or (empty_tier z img t u) i 0 ≡ get_or img i 0
 unfolding empty_tier
-get_d_empty_tier-out z img t u i o =
-    get_d_put_marks-out z _ t 0 _ 0 i (omega arith) o.marks
-    ∙ get_d_puts-out z _ ((tier t (counter next) ≔ u) ∷ zero_writes t) i
+get_or-empty_tier-out z img t u i o =
+    get_or-put_marks-out z _ t 0 _ 0 i (omega arith) o.marks
+    ∙ get_or-puts-out z _ ((tier t (counter next) ≔ u) ∷ zero_writes t) i
     (every-cons _ _ _ (o.counters next)
     (every-cons _ _ _ (o.counters previous)
     (every-cons _ _ _ (o.counters low)
@@ -104,7 +104,7 @@ get_d_empty_tier-out z img t u i o =
     (every-cons _ _ _ (o.counters order)
     (every-cons _ _ _ (o.counters count)
     (every-none _)))))))
-    ∙ get_d_empty_slots-out z img t i z.settings.slots (omega arith) o
+    ∙ get_or-empty_slots-out z img t i z.settings.slots (omega arith) o
 
 module _ {z : Shape} {img : List ℕ} (im : Image z img) (t u : ℕ) (it : IsTier z t) where
   open z use {settings}

@@ -9,7 +9,7 @@ use lib.ListN.{length, get_or}
 use lib.Seq.{sets, length-sets}
 use Rattle.lists.specs.Cases.{lt-or}
 use Rattle.words.specs.Bytes.{Bytes, cut, Apart}
-use Rattle.words.proofs.Bytes.{cut-ext, get_d_sets-out, bytes-sets}
+use Rattle.words.proofs.Bytes.{cut-ext, get_or-sets-out, bytes-sets}
 use Rattle.words.proofs.Numbers.{le-one, le-ext}
 use Rattle.layout.specs.declared.Shape.{Shape}
 use Rattle.layout.specs.Tiers.{store_end, IsTier}
@@ -126,7 +126,7 @@ module _ {z : Shape} {len : ℕ} (fr : Framed z len) (img : List ℕ) (t c : ℕ
       → get z (sets img (chunk_at z t c) bs) p ≡ get z img p
   unfolding get
   get-sets-other p it k fits h ne =
-      le-ext _ _ (at z p) (wide z p) (λ j lo hi. get_d_sets-out img (chunk_at z t c) bs j (not_written p j it k fits h ne lo hi))
+      le-ext _ _ (at z p) (wide z p) (λ j lo hi. get_or-sets-out img (chunk_at z t c) bs j (not_written p j it k fits h ne lo hi))
 
   pub mark-sets : (u i : ℕ) → IsTier z t → c ≤ chunks → length bs ≤ (chunks - c) * chunkSize → IsTier z u → i < chunks
       → mark z (sets img (chunk_at z t c) bs) u i ≡ mark z img u i

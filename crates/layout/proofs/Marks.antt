@@ -9,7 +9,7 @@ use Rattle.lists.specs.Cases.{lt-or}
 use Rattle.words.specs.Bytes.{Apart}
 use Rattle.words.specs.Bits.{bit_of, bit}
 use Rattle.words.proofs.Numbers.{le-ext, le-one}
-use Rattle.words.proofs.Bits.{bit_of_lt, length-put_bits, bytes-put_bits, get_d_put_bits-out, bit-put_bits-out, bit-put_bits_in}
+use Rattle.words.proofs.Bits.{bit_of_lt, length-put_bits, bytes-put_bits, get_or-put_bits-out, bit-put_bits-out, bit-put_bits_in}
 use Rattle.layout.specs.declared.Shape.{Shape}
 use Rattle.layout.specs.Tiers.{store_end, IsTier}
 use Rattle.layout.specs.Places.{free, Place, tier, part_at, part_wide, at, wide, In, get, put, free_list_at, mark, put_marks}
@@ -48,11 +48,11 @@ image-put_marks {z} {img} i t c n b h =
     record { bytes = bytes-put_bits img (free_list_at z t) c n b i.bytes h; framed = rw length-put_bits i.framed }
 
 -- a byte that holds none of the tier's marks
-pub get_d_put_marks-out : (z : Shape) (img : List ℕ) (t c n b j : ℕ) → c + n ≤ z.settings.chunks
+pub get_or-put_marks-out : (z : Shape) (img : List ℕ) (t c n b j : ℕ) → c + n ≤ z.settings.chunks
     → ((k : ℕ) → 8 * k < z.settings.chunks → Apart j 1 (at z (tier t (free k))) (wide z (tier t (free k))))
     → get_or (put_marks z img t c n b) j 0 ≡ get_or img j 0
 unfolding put_marks wide part_wide
-get_d_put_marks-out z img t c n b j fits off = get_d_put_bits-out img (free_list_at z t) c n b j (by_place (lt-or j (free_list_at z t)))
+get_or-put_marks-out z img t c n b j fits off = get_or-put_bits-out img (free_list_at z t) c n b j (by_place (lt-or j (free_list_at z t)))
   where
     by_byte : free_list_at z t ≤ j → ((8 * (j - free_list_at z t) < z.settings.chunks) ⊎ (z.settings.chunks ≤ 8 * (j - free_list_at z t)))
         → (8 * j + 7 < 8 * free_list_at z t + c) ⊎ (8 * free_list_at z t + c + n ≤ 8 * j)
@@ -81,7 +81,7 @@ module _ {z : Shape} {len : ℕ} (fr : Framed z len) (img : List ℕ) where
   get-put_marks-other t c n b p it fits h ne =
       le-ext _ _ (at z p) (wide z p)
       (λ j lo hi.
-      get_d_put_marks-out z img t c n b j fits
+      get_or-put_marks-out z img t c n b j fits
       (λ k l. ⊎_elim (λ a. inl (omega arith)) (λ a. inr (omega arith)) (apart fr p (tier t (free k)) h (it, l) (ne k))))
 
 -- ---- the marks of the tier itself

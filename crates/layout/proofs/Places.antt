@@ -12,7 +12,7 @@ use Rattle.lists.specs.Cases.{lt-or}
 use Rattle.lists.specs.Quantify.{Every, every-cons, every-none}
 use Rattle.words.specs.Bytes.{Apart}
 use Rattle.words.specs.Numbers.{le, le_bytes, put_le}
-use Rattle.words.proofs.Bytes.{get_d_sets-out}
+use Rattle.words.proofs.Bytes.{get_or-sets-out}
 use Rattle.words.proofs.Numbers.{length_le_bytes, length-put_le, bytes-put_le, le-lt, le-put_le-same, le-put_le-out}
 use Rattle.layout.specs.declared.Shape.{Shape}
 use Rattle.layout.specs.Tiers.{tier_at, IsTier}
@@ -69,10 +69,10 @@ unfolding get put
 get-same {z} {img} i p v h f = le-put_le-same img (at z p) (wide z p) v (omega (arith, inside i.framed p h, i.framed.within)) f
 
 -- a byte that is none of the place's
-pub get_d_put-out : (z : Shape) (img : List ℕ) (p : Place) (v i : ℕ) → Apart i 1 (at z p) (wide z p) → get_or (put z img p v) i 0 ≡ get_or img i 0
+pub get_or-put-out : (z : Shape) (img : List ℕ) (p : Place) (v i : ℕ) → Apart i 1 (at z p) (wide z p) → get_or (put z img p v) i 0 ≡ get_or img i 0
 unfolding put put_le
-get_d_put-out z img p v i o =
-    get_d_sets-out img (at z p) (le_bytes (wide z p) v) i
+get_or-put-out z img p v i o =
+    get_or-sets-out img (at z p) (le_bytes (wide z p) v) i
     (⊎_elim (λ (a : i + 1 ≤ at z p). inl (omega arith)) (λ (a : at z p + wide z p ≤ i). inr (omega (arith, length_le_bytes (wide z p) v))) o)
 
 -- ---- two places
@@ -134,12 +134,12 @@ get-puts-here {z} {img} im us p v vs h f e =
     ∙ get-puts-other (image-puts im us).framed _ vs p h e
     ∙ get-same (image-puts im us) p v h f
 
-pub get_d_puts-out : (z : Shape) (img : List ℕ) (ws : List Write) (i : ℕ) → Every ws (λ w. Apart i 1 (at z (written w)) (wide z (written w)))
+pub get_or-puts-out : (z : Shape) (img : List ℕ) (ws : List Write) (i : ℕ) → Every ws (λ w. Apart i 1 (at z (written w)) (wide z (written w)))
     → get_or (puts z img ws) i 0 ≡ get_or img i 0
 unfolding puts
-get_d_puts-out z img [] i o = refl
-get_d_puts-out z img ((p ≔ v) ∷ ws) i o =
-    get_d_puts-out z (put z img p v) ws i (λ w m. o w (Memᴰ.tail m)) ∙ get_d_put-out z img p v i (o (p ≔ v) (Memᴰ.head refl))
+get_or-puts-out z img [] i o = refl
+get_or-puts-out z img ((p ≔ v) ∷ ws) i o =
+    get_or-puts-out z (put z img p v) ws i (λ w m. o w (Memᴰ.tail m)) ∙ get_or-put-out z img p v i (o (p ≔ v) (Memᴰ.head refl))
 
 -- ---- places of different kinds are different places
 

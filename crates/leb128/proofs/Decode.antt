@@ -14,7 +14,7 @@ use lib.Seq.{drop-cons, sets}
 use Rattle.words.specs.Bytes.{cut, same}
 use Rattle.lists.specs.Cases.{lt-or, by-test}
 use Rattle.words.proofs.Cuts.{cut-room}
-use Rattle.words.proofs.Bytes.{same-eq, same_true, same_false, cut-sets-same, get_d_cut}
+use Rattle.words.proofs.Bytes.{same-eq, same_true, same_false, cut-sets-same, get_or-cut}
 use Rattle.leb128.specs.declared.Decoded.TheVariants.{Number, Refused}
 use Rattle.leb128.specs.Leb128.{encode, front, value, largest_length, accept, decode, EncodedAt}
 use Rattle.leb128.proofs.Encode.{encode-1, encode-2, encode-3}
@@ -222,7 +222,7 @@ decode-sound l at n next h =
 
 module _ (l : List ℕ) (at : ℕ) (bs : List ℕ) (e : cut l at (length bs) ≡ bs) where
   cut-byte : (i : ℕ) → i < length bs → get_or bs i 0 ≡ get_or l (at + i) 0
-  cut-byte i h = ap (λ (r : List ℕ). get_or r i 0) (sym e) ∙ get_d_cut l at (length bs) i h
+  cut-byte i h = ap (λ (r : List ℕ). get_or r i 0) (sym e) ∙ get_or-cut l at (length bs) i h
 
 module _ (l : List ℕ) (at n : ℕ) where
   complete-1 : n < 128 → cut l at 1 ≡ n ∷ [] → decode l at ≡ Number n (at + 1)

@@ -137,9 +137,9 @@ pub bytes_put_bit : (l : List ℕ) (at i b : ℕ) → Bytes l → b < 2 → Byte
 unfolding put_bit
 bytes_put_bit l at i b h hb = bytes-set l (at + i / 8) _ h (with_bit-lt (get_or l (at + i / 8) 0) (i % 8) b (h _) (omega arith) hb)
 
-pub get_d_put_bit_out : (l : List ℕ) (at i b j : ℕ) → j ≢ at + i / 8 → get_or (put_bit l at i b) j 0 ≡ get_or l j 0
+pub get_or_put_bit_out : (l : List ℕ) (at i b j : ℕ) → j ≢ at + i / 8 → get_or (put_bit l at i b) j 0 ≡ get_or l j 0
 unfolding put_bit
-get_d_put_bit_out l at i b j ne = get_or-set_other l (at + i / 8) j _ 0 ne
+get_or_put_bit_out l at i b j ne = get_or-set_other l (at + i / 8) j _ 0 ne
 
 pub bit_put_bit_same : (l : List ℕ) (at i b : ℕ) → 8 * at + i < 8 * length l → b < 2 → bit (put_bit l at i b) at i ≡ b
 unfolding bit put_bit
@@ -179,14 +179,14 @@ bytes-put_bits l at i zero b h hb = h
 bytes-put_bits l at i (suc n) b h hb = bytes_put_bit (put_bits l at i n b) at (i + n) b (bytes-put_bits l at i n b h hb) hb
 
 -- a byte that holds none of the range
-pub get_d_put_bits-out : (l : List ℕ) (at i n b j : ℕ) → (8 * j + 7 < 8 * at + i) ⊎ (8 * at + i + n ≤ 8 * j)
+pub get_or-put_bits-out : (l : List ℕ) (at i n b j : ℕ) → (8 * j + 7 < 8 * at + i) ⊎ (8 * at + i + n ≤ 8 * j)
     → get_or (put_bits l at i n b) j 0 ≡ get_or l j 0
 unfolding put_bits
-get_d_put_bits-out l at i zero b j o = refl
-get_d_put_bits-out l at i (suc n) b j o =
-    get_d_put_bit_out (put_bits l at i n b) at (i + n) b j
+get_or-put_bits-out l at i zero b j o = refl
+get_or-put_bits-out l at i (suc n) b j o =
+    get_or_put_bit_out (put_bits l at i n b) at (i + n) b j
     (⊎_elim (λ (h : 8 * j + 7 < 8 * at + i). omega arith) (λ (h : 8 * at + i + suc n ≤ 8 * j). omega arith) o)
-    ∙ get_d_put_bits-out l at i n b j (⊎_elim (λ h. inl h) (λ (h : 8 * at + i + suc n ≤ 8 * j). inr (omega arith)) o)
+    ∙ get_or-put_bits-out l at i n b j (⊎_elim (λ h. inl h) (λ (h : 8 * at + i + suc n ≤ 8 * j). inr (omega arith)) o)
 
 pub bit-put_bits-out : (l : List ℕ) (at i n b j : ℕ) → b < 2 → (j < i) ⊎ (i + n ≤ j) → bit (put_bits l at i n b) at j ≡ bit l at j
 unfolding put_bits

@@ -14,20 +14,20 @@ use Rattle.lists.specs.Cases.{by-test, lt-or, same_or}
 
 -- ---- one byte of what was written
 
-pub get_d_sets-out : (l : List ℕ) (at : ℕ) (bs : List ℕ) (i : ℕ) → (i < at) ⊎ (at + length bs ≤ i) → get_or (sets l at bs) i 0 ≡ get_or l i 0
-get_d_sets-out l at [] i o = refl
-get_d_sets-out l at (b ∷ bs) i o =
-    get_d_sets-out (set l at b) (suc at) bs i (⊎_elim (λ (h : i < at). inl (omega arith)) (λ (h : at + length (b ∷ bs) ≤ i). inr (omega arith)) o)
+pub get_or-sets-out : (l : List ℕ) (at : ℕ) (bs : List ℕ) (i : ℕ) → (i < at) ⊎ (at + length bs ≤ i) → get_or (sets l at bs) i 0 ≡ get_or l i 0
+get_or-sets-out l at [] i o = refl
+get_or-sets-out l at (b ∷ bs) i o =
+    get_or-sets-out (set l at b) (suc at) bs i (⊎_elim (λ (h : i < at). inl (omega arith)) (λ (h : at + length (b ∷ bs) ≤ i). inr (omega arith)) o)
     ∙ get_or-set_other l at i b 0 (⊎_elim (λ (h : i < at). omega arith) (λ (h : at + length (b ∷ bs) ≤ i). omega arith) o)
 
-pub get_d_sets_in : (l : List ℕ) (at : ℕ) (bs : List ℕ) (i : ℕ) → at + length bs ≤ length l → i < length bs
+pub get_or-sets_in : (l : List ℕ) (at : ℕ) (bs : List ℕ) (i : ℕ) → at + length bs ≤ length l → i < length bs
     → get_or (sets l at bs) (at + i) 0 ≡ get_or bs i 0
-get_d_sets_in l at [] i h k = absurd (omega arith)
-get_d_sets_in l at (b ∷ bs) zero h k =
-    rw add-zero (get_d_sets-out (set l at b) (suc at) bs at (inl (omega arith)) ∙ get_or-set_same l at b 0 (omega arith))
-get_d_sets_in l at (b ∷ bs) (suc i) h k =
+get_or-sets_in l at [] i h k = absurd (omega arith)
+get_or-sets_in l at (b ∷ bs) zero h k =
+    rw add-zero (get_or-sets-out (set l at b) (suc at) bs at (inl (omega arith)) ∙ get_or-set_same l at b 0 (omega arith))
+get_or-sets_in l at (b ∷ bs) (suc i) h k =
     let e : at + suc i ≡ suc at + i = omega arith in
-    rw e (get_d_sets_in (set l at b) (suc at) bs i (rw length-set (omega arith)) (omega arith))
+    rw e (get_or-sets_in (set l at b) (suc at) bs i (rw length-set (omega arith)) (omega arith))
 
 -- ---- every one stays a byte
 
@@ -59,8 +59,8 @@ sets_then l at xs ys e n = ap₂ (λ (x : List ℕ) (k : ℕ). sets x k ys) e n 
 pub length_cut : (l : List ℕ) (at n : ℕ) → at + n ≤ length l → length (cut l at n) ≡ n
 length_cut l at n h = simp (length-take, length-drop) (omega arith)
 
-pub get_d_cut : (l : List ℕ) (at n i : ℕ) → i < n → get_or (cut l at n) i 0 ≡ get_or l (at + i) 0
-get_d_cut l at n i h = get_or-take n (drop at l) i 0 h ∙ get_or-drop at l i 0
+pub get_or-cut : (l : List ℕ) (at n i : ℕ) → i < n → get_or (cut l at n) i 0 ≡ get_or l (at + i) 0
+get_or-cut l at n i h = get_or-take n (drop at l) i 0 h ∙ get_or-drop at l i 0
 
 pub cut-ext : (l l' : List ℕ) (at n : ℕ) → length l ≡ length l' → ((i : ℕ) → i < n → get_or l (at + i) 0 ≡ get_or l' (at + i) 0)
     → cut l at n ≡ cut l' at n
@@ -69,18 +69,18 @@ cut-ext l l' at n e h =
     (simp (length-take, length-drop, e))
     (λ i k.
     let b : i < n = omega (arith, simp (length-take, length-drop) at k) in
-    get_d_cut l at n i b ∙ h i b ∙ sym (get_d_cut l' at n i b))
+    get_or-cut l at n i b ∙ h i b ∙ sym (get_or-cut l' at n i b))
 
 pub cut-sets-out : (l : List ℕ) (a n b : ℕ) (bs : List ℕ) → Apart a n b (length bs) → cut (sets l b bs) a n ≡ cut l a n
 cut-sets-out l a n b bs o =
     cut-ext _ _ a n (length-sets l b bs)
-    (λ i k. get_d_sets-out l b bs (a + i) (⊎_elim (λ (q : a + n ≤ b). inl (omega arith)) (λ (q : b + length bs ≤ a). inr (omega arith)) o))
+    (λ i k. get_or-sets-out l b bs (a + i) (⊎_elim (λ (q : a + n ≤ b). inl (omega arith)) (λ (q : b + length bs ≤ a). inr (omega arith)) o))
 
 pub cut-sets-same : (l : List ℕ) (at : ℕ) (bs : List ℕ) → at + length bs ≤ length l → cut (sets l at bs) at (length bs) ≡ bs
 cut-sets-same l at bs h =
     let long : at + length bs ≤ length (sets l at bs) = rw length-sets h in
     let e : length (cut (sets l at bs) at (length bs)) ≡ length bs = length_cut (sets l at bs) at (length bs) long in
-    ext_get_or 0 _ _ e (λ i k. let b : i < length bs = omega arith in get_d_cut (sets l at bs) at (length bs) i b ∙ get_d_sets_in l at bs i h b)
+    ext_get_or 0 _ _ e (λ i k. let b : i < length bs = omega arith in get_or-cut (sets l at bs) at (length bs) i b ∙ get_or-sets_in l at bs i h b)
 
 -- ---- the test that two lists are the same
 

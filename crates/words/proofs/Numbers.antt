@@ -10,7 +10,7 @@ use lib.ListN.{length, get_or, set, length-set, get_or-append}
 use lib.Seq.{sets, length-sets, get_or-set_same}
 use Rattle.words.specs.Bytes.{Bytes, Apart}
 use Rattle.words.specs.Numbers.{le, le_bytes, put_le, be}
-use Rattle.words.proofs.Bytes.{get_d_sets-out, bytes-sets}
+use Rattle.words.proofs.Bytes.{get_or-sets-out, bytes-sets}
 
 -- ---- the bytes of a number
 
@@ -35,10 +35,10 @@ pub bytes-put_le : (l : List ℕ) (at n v : ℕ) → Bytes l → Bytes (put_le l
 unfolding put_le
 bytes-put_le l at n v b = bytes-sets l at (le_bytes n v) b (bytes_le_bytes n v)
 
-pub get_d_put_le-out : (l : List ℕ) (at n v i : ℕ) → (i < at) ⊎ (at + n ≤ i) → get_or (put_le l at n v) i 0 ≡ get_or l i 0
+pub get_or-put_le-out : (l : List ℕ) (at n v i : ℕ) → (i < at) ⊎ (at + n ≤ i) → get_or (put_le l at n v) i 0 ≡ get_or l i 0
 unfolding put_le
-get_d_put_le-out l at n v i o =
-    get_d_sets-out l at (le_bytes n v) i (⊎_elim (λ h. inl h) (λ (h : at + n ≤ i). inr (omega (arith, length_le_bytes n v))) o)
+get_or-put_le-out l at n v i o =
+    get_or-sets-out l at (le_bytes n v) i (⊎_elim (λ h. inl h) (λ (h : at + n ≤ i). inr (omega (arith, length_le_bytes n v))) o)
 
 -- ---- reading after writing
 
@@ -75,7 +75,7 @@ le-inj l l' a b (suc n) bl bm e (suc j) h =
 pub le-put_le-out : (l : List ℕ) (at n v b m : ℕ) → Apart at n b m → le (put_le l at n v) b m ≡ le l b m
 le-put_le-out l at n v b m o =
     le-ext _ _ b m
-    (λ i p q. get_d_put_le-out l at n v i (⊎_elim (λ (h : at + n ≤ b). inr (omega arith)) (λ (h : b + m ≤ at). inl (omega arith)) o))
+    (λ i p q. get_or-put_le-out l at n v i (⊎_elim (λ (h : at + n ≤ b). inr (omega arith)) (λ (h : b + m ≤ at). inl (omega arith)) o))
 
 pub le-put_le-same : (l : List ℕ) (at n v : ℕ) → at + n ≤ length l → v < 256 ^ n → le (put_le l at n v) at n ≡ v
 unfolding le put_le le_bytes
@@ -83,7 +83,7 @@ le-put_le-same l at zero v h f = omega arith
 le-put_le-same l at (suc n) v h f =
     omega (
       arith,
-      get_d_put_le-out (set l at (v % 256)) (suc at) n (v / 256) at (inl (omega arith)),
+      get_or-put_le-out (set l at (v % 256)) (suc at) n (v / 256) at (inl (omega arith)),
       get_or-set_same l at (v % 256) 0 (omega arith),
       le-put_le-same (set l at (v % 256)) (suc at) n (v / 256) (rw length-set (omega arith)) (omega (arith, pow-suc 256 n)),
     )
