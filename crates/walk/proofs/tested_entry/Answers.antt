@@ -79,7 +79,7 @@ returns c =
       measured-reads c.args.z c.args.img.now c.args.t c.args.c w
           (record {
             some_byte = omega (arith, c.if-k-lt1.false);
-            key_not_longer = omega (arith, c.if-k-gt-LONGEST_KEY.false);
+            key_not_longer = omega arith;
             ends = omega (arith, c.chunk_at-end.ensures);
           }),
     )
