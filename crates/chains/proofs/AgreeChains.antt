@@ -13,7 +13,9 @@ use Rattle.links.specs.Links.{Linked}
 use Rattle.links.proofs.Runs.{run-from, run-same}
 use Rattle.layout.specs.declared.Shape.{Shape}
 use Rattle.layout.specs.Tiers.{tiers, IsTier, IsExtra}
-use Rattle.layout.specs.Places.{get, global, usedTiers, tier, counter, previous, segment, order}
+use Rattle.layout.specs.declared.Global.TheVariants.{UsedTiers as usedTiers}
+use Rattle.layout.specs.declared.Counter.TheVariants.{Previous as previous, Segment as segment, Order as order}
+use Rattle.layout.specs.Places.{get, global, tier, counter}
 use Rattle.chains.specs.Chains.{next_of, chain, free_head, free_chain, chained, chained_extra, StandsAt, ChainFits, FreeChainFits, ChainsFit}
 use Rattle.chains.proofs.Tiers.{chain-from-extras, chain-tiers, free-tiers}
 use Rattle.chains.proofs.Linked.{linked-chain, linked-free, chain-linked, free-linked, linked-ends}

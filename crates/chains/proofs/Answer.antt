@@ -10,7 +10,7 @@ use Rattle.lists.proofs.Decides.{choose-by, choose_no, choose_yes}
 use Rattle.lists.proofs.Lists.{flat_map_below}
 use Rattle.layout.specs.declared.Shape.{Shape}
 use Rattle.layout.specs.Tiers.{tiers}
-use Rattle.chains.specs.declared.Chains.TheVariants.{Fit, Broken}
+use Rattle.std.specs.Prelude.{Some, None}
 use Rattle.chains.specs.Chains.{chain, free_head, free_chain, chained, chained_extra, FreeChainFits, ChainsFit, chains_fit?, chains_of}
 use Rattle.chains.specs.Walk.{Extras, extras_of, extras_before}
 use Rattle.chains.proofs.Segments.{before-none, before_more, before-all, chain_length}
@@ -21,19 +21,19 @@ module _ (z : Shape) (img : List ℕ) where
 
   -- ---- the decision
 
-  pub chains-fit : ChainsFit z img → chains_of z img ≡ Fit (length (chained z img)) (length (free_chain z img))
+  pub chains-fit : ChainsFit z img → chains_of z img ≡ Some (length (chained z img), length (free_chain z img))
   unfolding chains_of
   chains-fit f = choose_yes (chains_fit? z img) _ _ f
 
-  pub chains-broken : (ChainsFit z img → ⊥) → chains_of z img ≡ Broken
+  pub chains-broken : (ChainsFit z img → ⊥) → chains_of z img ≡ None
   unfolding chains_of
   chains-broken n = choose_no (chains_fit? z img) _ _ n
 
   -- nothing else is accepted
-  pub chains-only : (m n : ℕ) → chains_of z img ≡ Fit m n → ChainsFit z img
+  pub chains-only : (m n : ℕ) → chains_of z img ≡ Some (m, n) → ChainsFit z img
   unfolding chains_of
   chains-only m n =
-      choose-by (chains_fit? z img) _ _ (λ x. x ≡ Fit m n → ChainsFit z img) (λ _ e. absurd (let q : ◌≡◌ {A = ℕ} 0 1 = cc in omega arith)) (λ f _. f)
+      choose-by (chains_fit? z img) _ _ (λ x. x ≡ Some (m, n) → ChainsFit z img) (λ _ e. absurd (let q : ◌≡◌ {A = ℕ} 0 1 = cc in omega arith)) (λ f _. f)
 
   -- ---- how many tiers are chained
 

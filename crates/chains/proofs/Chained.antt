@@ -15,7 +15,8 @@ use Rattle.lists.proofs.Totals.{total-change, total-zero, how_many_flat_map}
 use Rattle.links.proofs.Once.{linked-once}
 use Rattle.layout.specs.declared.Shape.{Shape}
 use Rattle.layout.specs.Tiers.{tiers, IsExtra}
-use Rattle.layout.specs.Places.{get, tier, counter, segment}
+use Rattle.layout.specs.declared.Counter.TheVariants.{Segment as segment}
+use Rattle.layout.specs.Places.{get, tier, counter}
 use Rattle.chains.specs.Chains.{follow, next_of, chain, free_chain, chained, chained_extra, ChainsFit}
 use Rattle.chains.specs.Walk.{extras_of}
 use Rattle.chains.proofs.Segments.{chain-cons, extras-of}

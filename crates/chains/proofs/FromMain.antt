@@ -9,25 +9,24 @@ use Rattle.lists.specs.Quantify.{Below, Every}
 use Rattle.links.proofs.Follow.{length-follow}
 use Rattle.layout.specs.declared.Shape.{Shape}
 use Rattle.layout.specs.Tiers.{tiers, IsExtra}
-use Rattle.chains.specs.declared.Walked.{Walked}
-use Rattle.chains.specs.declared.Walked.TheVariants.{Ended, Lost}
+use Rattle.std.specs.Prelude.{Option, Some, None}
 use Rattle.chains.specs.Chains.{follow, next_of, chain, Stands}
 use Rattle.chains.specs.Walk.{tally, Met, Extras, Walks, extras_of, ChainWalks, CanWalkChain, CanAllStand}
 use Rattle.chains.proofs.Walking.{told-ended, told-lost}
 use Rattle.chains.proofs.Segments.{chain-end, extras-of, chain_length}
 
 -- the walk goes from the main tier's next on
-module _ {z : Shape} {img : List ℕ} {s : ℕ} {times : List ℕ} (can : CanWalkChain z img s times) {m n : ℕ} {a b : List ℕ} {r : Walked}
+module _ {z : Shape} {img : List ℕ} {s : ℕ} {times : List ℕ} (can : CanWalkChain z img s times) {m n : ℕ} {a b : List ℕ} {r : Option ℕ}
     (em : m ≡ tiers z) (en : n ≡ next_of z img (s + 1)) (w : Walks z img (m - 1) n a b r) where
   walk : Walks z img (tiers z - 1) (next_of z img (suc s)) a b r
   walk = let e : n ≡ next_of z img (suc s) = en ∙ ap (next_of z img) (add-one s) in subst₂ (λ (x y : ℕ). Walks z img (x - 1) y a b r) em e w
 
-  pub main-lost : r ≡ Lost → ChainWalks z img s a b Lost
+  pub main-lost : r ≡ None → ChainWalks z img s a b None
   main-lost e =
       let same : extras_of z img s ≡ follow z img (tiers z - 1) (next_of z img (suc s)) = extras-of z img s can.segment_in in
       record { so = λ f. told-lost walk e (record { extras = rw same at f.extras; ends = sym (chain-end z img s can.segment_in) ∙ f.ends }) }
 
-  module _ {k : ℕ} (e : r ≡ Ended k) where
+  module _ {k : ℕ} (e : r ≡ Some k) where
     met : Met (Extras z img (tiers z - 1) (next_of z img (suc s))) (follow z img (tiers z - 1) (next_of z img (suc s))) a b k
     met = told-ended walk e
 
@@ -48,10 +47,10 @@ module _ {z : Shape} {img : List ℕ} {s : ℕ} {times : List ℕ} (can : CanWal
     pub main-asks : CanAllStand z img s (k + 1)
     main-asks = record { framed = can.counting.framed; segment_in = can.segment_in; number = number; extras = extras }
 
-    pub main-refutes : (Below (k + 1) (Stands z img s) → ⊥) → ChainWalks z img s a b Lost
+    pub main-refutes : (Below (k + 1) (Stands z img s) → ⊥) → ChainWalks z img s a b None
     main-refutes n = record { so = λ f. n (rw number f.standing) }
 
-    pub main-fits : Below (k + 1) (Stands z img s) → ChainWalks z img s a b (Ended k)
+    pub main-fits : Below (k + 1) (Stands z img s) → ChainWalks z img s a b (Some k)
     main-fits stand =
         record {
           so =

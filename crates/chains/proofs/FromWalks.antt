@@ -10,11 +10,10 @@ use Rattle.lists.specs.Quantify.{Below, Every}
 use Rattle.lists.proofs.Lists.{in_span, span_in}
 use Rattle.layout.specs.declared.Shape.{Shape}
 use Rattle.layout.specs.Tiers.{tiers}
-use Rattle.layout.specs.Places.{get, global, usedTiers}
+use Rattle.layout.specs.declared.Global.TheVariants.{UsedTiers as usedTiers}
+use Rattle.layout.specs.Places.{get, global}
 use Rattle.layout.specs.Frame.{Framed}
-use Rattle.chains.specs.declared.Chains.TheVariants.{Fit, Broken}
-use Rattle.chains.specs.declared.Walked.{Walked}
-use Rattle.chains.specs.declared.Walked.TheVariants.{Ended, Lost}
+use Rattle.std.specs.Prelude.{Option, Some, None}
 use Rattle.chains.specs.Chains.{follow, free_head, free_chain, chained, chained_extra, extra_tiers, ChainFits, Once, chains_of}
 use Rattle.chains.specs.Walk.{tally, Met, Extras, Walks, extras_before, AllWalk, counts, Counting}
 use Rattle.chains.proofs.Tally.{tally-append, length-tally, get_or-tally, zeros-met}
@@ -33,7 +32,7 @@ counting-starts fr = record { framed = fr; long = length-replicate {A = ℕ} cou
 
 -- ---- the walk along the segments' chains
 
-module _ {z : Shape} {img times₁ : List ℕ} {r₁ : Walked} (fr : Framed z (length img))
+module _ {z : Shape} {img times₁ : List ℕ} {r₁ : Option ℕ} (fr : Framed z (length img))
     (a : AllWalk z img z.settings.segments no_times times₁ r₁) where
   open z use {settings, bulks}
   open settings use {segments, bulkTiers}
@@ -41,10 +40,10 @@ module _ {z : Shape} {img times₁ : List ℕ} {r₁ : Walked} (fr : Framed z (l
   few : segments ≤ 256
   few = fr.valid.segments.1.1
 
-  pub first-lost : r₁ ≡ Lost → chains_of z img ≡ Broken
+  pub first-lost : r₁ ≡ None → chains_of z img ≡ None
   first-lost e = chains-broken z img (λ f. told-lost a e f.segments_fit)
 
-  module _ {k : ℕ} (e₁ : r₁ ≡ Ended k) where
+  module _ {k : ℕ} (e₁ : r₁ ≡ Some k) where
     ended : Met (Below segments (ChainFits z img)) (extras_before z img segments) no_times times₁ k
     ended = told-ended a e₁
 
@@ -67,15 +66,15 @@ module _ {z : Shape} {img times₁ : List ℕ} {r₁ : Walked} (fr : Framed z (l
 
     -- ---- and after it the walk along the free chain
 
-    module _ {most head : ℕ} {times₂ : List ℕ} {r₂ : Walked} (em : most ≡ tiers z) (eh : head ≡ free_head z img)
+    module _ {most head : ℕ} {times₂ : List ℕ} {r₂ : Option ℕ} (em : most ≡ tiers z) (eh : head ≡ free_head z img)
         (w : Walks z img most head times₁ times₂ r₂) where
       from-head : Walks z img (tiers z) (free_head z img) times₁ times₂ r₂
       from-head = subst₂ (λ (x y : ℕ). Walks z img x y times₁ times₂ r₂) em eh w
 
-      pub free-lost : r₂ ≡ Lost → chains_of z img ≡ Broken
+      pub free-lost : r₂ ≡ None → chains_of z img ≡ None
       free-lost e = chains-broken z img (λ f. told-lost from-head e (free-extras z img f.free_fits))
 
-      module _ {f : ℕ} (e₂ : r₂ ≡ Ended f) where
+      module _ {f : ℕ} (e₂ : r₂ ≡ Some f) where
         free_ended : Met (Extras z img (tiers z) (free_head z img)) (follow z img (tiers z) (free_head z img)) times₁ times₂ f
         free_ended = told-ended from-head e₂
 
@@ -114,14 +113,14 @@ module _ {z : Shape} {img times₁ : List ℕ} {r₁ : Walked} (fr : Framed z (l
             times-met (suc segments + j) (omega (arith, fr.tier_count))
             ∙ o (suc segments + j) (in_span (suc segments) (bulks * bulkTiers) (suc segments + j) (omega arith) (omega arith))
 
-        pub met-wrong : (MetOnce → ⊥) → chains_of z img ≡ Broken
+        pub met-wrong : (MetOnce → ⊥) → chains_of z img ≡ None
         met-wrong n = chains-broken z img (λ c. n (once-met c.once))
 
         module _ {u : ℕ} (eu : u ≡ get z img (global usedTiers)) where
-          pub used-wrong : (u ≡ k → ⊥) → chains_of z img ≡ Broken
+          pub used-wrong : (u ≡ k → ⊥) → chains_of z img ≡ None
           used-wrong n = chains-broken z img (λ c. n (eu ∙ c.used_is ∙ sym extras-count))
 
-          pub all_right : MetOnce → u ≡ k → chains_of z img ≡ Fit (segments + k) f
+          pub all_right : MetOnce → u ≡ k → chains_of z img ≡ Some (segments + k, f)
           unfolding free_chain
           all_right o q =
               let c : length (chained z img) ≡ segments + k = chained-length z img ∙ ap (λ (n : ℕ). segments + n) (sym extras-count) in
@@ -132,4 +131,4 @@ module _ {z : Shape} {img times₁ : List ℕ} {r₁ : Walked} (fr : Framed z (l
                 once = all_once o;
                 used_is = sym eu ∙ q ∙ extras-count;
               })
-              ∙ ap₂ Fit c (sym free_ended.count)
+              ∙ ap₂ (λ (m n : ℕ). Some (m, n)) c (sym free_ended.count)

@@ -13,7 +13,7 @@ use Rattle.links.proofs.Follow.{follow-more, end_more, length-follow}
 use Rattle.layout.specs.declared.Shape.{Shape}
 use Rattle.layout.specs.Tiers.{tiers}
 use Rattle.layout.specs.Frame.{Framed}
-use Rattle.chains.specs.declared.Walked.TheVariants.{Ended, Lost}
+use Rattle.std.specs.Prelude.{Some, None}
 use Rattle.chains.specs.Chains.{follow, end_of, next_of, chain, last_tier, chained_extra, ChainFits}
 use Rattle.chains.specs.Walk.{tally, Met, extras_of, extras_before, AllWalk, MetAtMost, Counting}
 use Rattle.chains.proofs.Tally.{tally-append, length-tally, met-tally}
@@ -125,11 +125,11 @@ module _ (z : Shape) (img : List ℕ) where
         tallied = rw (before_more s, tally-append, ← w.tallied) c.tallied;
       }
 
-  pub all-lost : {times₀ times : List ℕ} {s : ℕ} → s < segments → (ChainFits z img s → ⊥) → AllWalk z img segments times₀ times Lost
+  pub all-lost : {times₀ times : List ℕ} {s : ℕ} → s < segments → (ChainFits z img s → ⊥) → AllWalk z img segments times₀ times None
   all-lost {s = s} h n = record { so = λ f. n (f s h) }
 
   pub all-ends : {times₀ times : List ℕ} {total s : ℕ} → AllWalking times₀ times total s → segments ≤ s
-      → AllWalk z img segments times₀ times (Ended total)
+      → AllWalk z img segments times₀ times (Some total)
   all-ends {times₀} {times} {total} {s} w h =
       let e : s ≡ segments = omega (arith, w.low) in
       let f : Below s (ChainFits z img) = w.fits in

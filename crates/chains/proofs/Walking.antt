@@ -10,19 +10,18 @@ use Rattle.lists.proofs.Members.{every_more}
 use Rattle.links.proofs.Along.{Along, along-starts, along-ends, along-end, along-lost, along_in, along-turns}
 use Rattle.layout.specs.declared.Shape.{Shape}
 use Rattle.layout.specs.Tiers.{IsExtra}
-use Rattle.chains.specs.declared.Walked.{Walked}
-use Rattle.chains.specs.declared.Walked.TheVariants.{Ended, Lost}
+use Rattle.std.specs.Prelude.{Option, Some, None}
 use Rattle.chains.specs.Chains.{follow, next_of}
 use Rattle.chains.specs.Walk.{tally, Met, Tells, Told, Walks, MetAtMost}
 use Rattle.chains.proofs.Tally.{tally-append, met-tally}
 
 -- ---- what a walk tells, by its answer
 
-module _ {P : Type 0} {l times times' : List ℕ} {r : Walked} (w : Told P l times times' r) where
-  pub told-ended : {k : ℕ} → r ≡ Ended k → Met P l times times' k
+module _ {P : Type 0} {l times times' : List ℕ} {r : Option ℕ} (w : Told P l times times' r) where
+  pub told-ended : {k : ℕ} → r ≡ Some k → Met P l times times' k
   told-ended e = subst (Tells P l times times') e w.so
 
-  pub told-lost : r ≡ Lost → P → ⊥
+  pub told-lost : r ≡ None → P → ⊥
   told-lost e = subst (Tells P l times times') e w.so
 
 -- ---- the loop
@@ -46,14 +45,14 @@ module _ (z : Shape) (img : List ℕ) (most start : ℕ) (times₀ : List ℕ) w
     walk-met met u = rw (w.tallied, ← w.count) (met-tally times₀ w.done (2 ^ 32) met u)
 
     -- the end is reached
-    pub walk_ends : t ≡ 0 → Walks z img most start times₀ times (Ended k)
-    walk_ends e =
+    pub walk_ends : t ≡ 0 → {n : ℕ} → n ≡ k → Walks z img most start times₀ times (Some n)
+    walk_ends e q =
         let all : w.done ≡ follow z img most start = along-ends w.along e in
         record {
           so =
               record {
                 holds = record { extras = rw all at w.extras; ends = along-end w.along e };
-                count = sym w.count ∙ ap length all;
+                count = q ∙ sym w.count ∙ ap length all;
                 tallied = w.tallied ∙ ap (tally times₀) all;
               };
         }
@@ -63,7 +62,7 @@ module _ (z : Shape) (img : List ℕ) (most start : ℕ) (times₀ : List ℕ) w
       low = omega (arith, w.count)
 
       -- t is no extra tier
-      pub walk-lost : (IsExtra z t → ⊥) → Walks z img most start times₀ times Lost
+      pub walk-lost : (IsExtra z t → ⊥) → Walks z img most start times₀ times None
       walk-lost n = record { so = λ x. n (x.extras t (along_in w.along low ne)) }
 
       pub walk-turns : IsExtra z t → {n : ℕ} → n ≡ next_of z img t → Walking (set times t (get_or times t 0 + 1)) n (k + 1)
@@ -79,5 +78,5 @@ module _ (z : Shape) (img : List ℕ) (most start : ℕ) (times₀ : List ℕ) w
           }
 
     -- no end was found
-    pub walk-out : most ≤ k → t ≢ 0 → Walks z img most start times₀ times Lost
+    pub walk-out : most ≤ k → t ≢ 0 → Walks z img most start times₀ times None
     walk-out h ne = record { so = λ x. ne (sym (along-lost w.along (omega (arith, w.count))) ∙ x.ends) }

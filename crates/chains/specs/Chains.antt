@@ -1,5 +1,5 @@
 -- The chains of tiers: refusal 5.
-use Rattle.std.specs.Prelude.{ℕ, suc, ◌*◌, ◌-◌, ◌≡◌, eqb, length, get_or, drop}
+use Rattle.std.specs.Prelude.{ℕ, suc, ◌*◌, ◌-◌, ◌≡◌, eqb, length, get_or, drop, Option, Some, None}
 use mathlib.Core.List.{List, ◌∷◌, ◌++◌, flat_map}
 use Rattle.std.proofs.Math.Decide.{dec_le, dec_lt, ℕ_discrete}
 use Rattle.lists.specs.Lists.{span, below, how_many}
@@ -8,9 +8,9 @@ use Rattle.lists.specs.Quantify.{Below, Every, below?, every?}
 use Rattle.links.specs.Links as links
 use Rattle.layout.specs.declared.Shape.{Shape}
 use Rattle.layout.specs.Tiers.{tiers, IsExtra}
-use Rattle.layout.specs.Places.{get, global, firstFree, usedTiers, tier, counter, previous, segment, order, next_place}
-use Rattle.chains.specs.declared.Chains.{Chains}
-use Rattle.chains.specs.declared.Chains.TheVariants.{Fit, Broken}
+use Rattle.layout.specs.declared.Global.TheVariants.{FirstFree as firstFree, UsedTiers as usedTiers}
+use Rattle.layout.specs.declared.Counter.TheVariants.{Previous as previous, Segment as segment, Order as order}
+use Rattle.layout.specs.Places.{get, global, tier, counter, next_place}
 
 module _ (z : Shape) (img : List ℕ) where
   open z use {settings, bulks}
@@ -120,5 +120,5 @@ module _ (z : Shape) (img : List ℕ) where
 
   -- ---- the answer: how many tiers are chained, and how many free
 
-  unfoldable pub chains_of : Chains
-  chains_of = choose chains_fit? (λ _. Broken) (λ _. Fit (length chained) (length free_chain))
+  unfoldable pub chains_of : Option (ℕ × ℕ)
+  chains_of = choose chains_fit? (λ _. None) (λ _. Some (length chained, length free_chain))

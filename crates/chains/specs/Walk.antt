@@ -1,13 +1,11 @@
 -- What one walk along a chain finds, and how often each tier was met.
-use Rattle.std.specs.Prelude.{ℕ, ◌+◌, ◌^◌, ◌≤◌, ◌<◌, suc, ◌≡◌, length, get_or, set, drop}
+use Rattle.std.specs.Prelude.{ℕ, ◌+◌, ◌^◌, ◌≤◌, ◌<◌, suc, ◌≡◌, length, get_or, set, drop, Option, Some, None}
 use mathlib.Core.List.{List, [], ◌∷◌, flat_map}
 use Rattle.lists.specs.Lists.{below}
 use Rattle.lists.specs.Quantify.{Below, Every}
 use Rattle.layout.specs.declared.Shape.{Shape}
 use Rattle.layout.specs.Tiers.{IsTier, IsExtra}
 use Rattle.layout.specs.Frame.{Framed, most_tiers}
-use Rattle.chains.specs.declared.Walked.{Walked}
-use Rattle.chains.specs.declared.Walked.TheVariants.{Ended, Lost}
 use Rattle.chains.specs.Chains.{follow, end_of, chain, ChainFits}
 
 -- each tier of a list counted once more
@@ -24,12 +22,12 @@ pub record Met (P : Type 0) (l times times' : List ℕ) (k : ℕ) : Type 0 where
   pub tallied : times' ≡ tally times l
 
 -- a walk that ended has met the tiers of l, and one that is lost refutes P
-abbrev pub Tells : Type 0 → List ℕ → List ℕ → List ℕ → Walked → Type 0
-Tells P l times times' (Ended k) = Met P l times times' k
-Tells P l times times' Lost = P → ⊥
+abbrev pub Tells : Type 0 → List ℕ → List ℕ → List ℕ → Option ℕ → Type 0
+Tells P l times times' (Some k) = Met P l times times' k
+Tells P l times times' None = P → ⊥
 
 -- as a record, so that its arguments are found where it is given
-pub record Told (P : Type 0) (l times times' : List ℕ) (r : Walked) : Type 0 where
+pub record Told (P : Type 0) (l times times' : List ℕ) (r : Option ℕ) : Type 0 where
   pub so : Tells P l times times' r
 
 -- ---- the walk from t on: at most n extra tiers follow, up to 0
@@ -38,7 +36,7 @@ pub record Extras (z : Shape) (img : List ℕ) (n t : ℕ) : Type 0 where
   pub extras : Every (follow z img n t) (IsExtra z)
   pub ends : end_of z img n t ≡ 0
 
-abbrev pub Walks : (z : Shape) (img : List ℕ) (n t : ℕ) → List ℕ → List ℕ → Walked → Type 0
+abbrev pub Walks : (z : Shape) (img : List ℕ) (n t : ℕ) → List ℕ → List ℕ → Option ℕ → Type 0
 Walks z img n t = Told (Extras z img n t) (follow z img n t)
 
 -- ---- the walk along segment s's chain, and along the chains of the first s segments
@@ -50,10 +48,10 @@ extras_of z img s = drop 1 (chain z img s)
 unfoldable pub extras_before : Shape → List ℕ → ℕ → List ℕ
 extras_before z img s = flat_map (extras_of z img) (below s)
 
-abbrev pub ChainWalks : (z : Shape) (img : List ℕ) (s : ℕ) → List ℕ → List ℕ → Walked → Type 0
+abbrev pub ChainWalks : (z : Shape) (img : List ℕ) (s : ℕ) → List ℕ → List ℕ → Option ℕ → Type 0
 ChainWalks z img s = Told (ChainFits z img s) (extras_of z img s)
 
-abbrev pub AllWalk : (z : Shape) (img : List ℕ) (s : ℕ) → List ℕ → List ℕ → Walked → Type 0
+abbrev pub AllWalk : (z : Shape) (img : List ℕ) (s : ℕ) → List ℕ → List ℕ → Option ℕ → Type 0
 AllWalk z img s = Told (Below s (ChainFits z img)) (extras_before z img s)
 
 -- ---- what the functions ask

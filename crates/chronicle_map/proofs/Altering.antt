@@ -7,6 +7,7 @@ use mathlib.Core.Bool.{Bool, true, false, not}
 use mathlib.Core.Option.{Option, none, some}
 use native.Mathlib.Omega.{arith}
 use borrow.Author.Tests.{not-true}
+use Rattle.std.specs.Prelude.{Ok}
 use Rattle.lists.specs.Cases.{by-test}
 use Rattle.lists.specs.Decide.{choose}
 use Rattle.lists.specs.Lists.{first, those}
@@ -27,13 +28,13 @@ use Rattle.sound.specs.Sound.{SoundImage, ImageFits}
 use Rattle.edit.specs.declared.Policy.{Policy}
 use Rattle.image.specs.declared.Counts.{Counts}
 use Rattle.image.specs.declared.Stage.TheVariants.{Key}
-use Rattle.image.specs.declared.Examined.TheVariants.{Ready}
 use Rattle.image.specs.Check.{counts_of, examine, verdict_of, check}
 use Rattle.image.proofs.Ready.{Fitting, fitting-ready, ready-fitting}
 use Rattle.edit.specs.Edits.{find}
 use Rattle.edit.proofs.Finding.{found-only}
 use Rattle.edit.proofs.Replacing.{live-key-fits}
 use Rattle.entries.proofs.LiveLists.{live_in_lem}
+use Rattle.std.specs.Prelude.{Ok, Err}
 use Rattle.chronicle_map.specs.declared.Located.TheVariants as looked
 use Rattle.chronicle_map.specs.Asked.{a_key, an_entry, GivenKeyFits, given_key_fits?, GivenValueFits, given_value_fits?, after_value, after_key}
 use Rattle.chronicle_map.specs.Calls.{place_of, search_end, from_find, looked_up, lookup, answer_number, remove, store}
@@ -56,7 +57,7 @@ fits-accepted block img f = (
 pub accepted-fits : (block img : List ℕ) → Accepted block img → Fits block img
 unfolding check
 accepted-fits block img (c, e) =
-    let r : (z : Shape) × (d : Counts) × (examine block img ≡ Ready z d) = accepted-ready block img (examine block img) c e in
+    let r : (z : Shape) × (d : Counts) × (examine block img ≡ Ok (z, d)) = accepted-ready block img (examine block img) c e in
     let f : Fitting block img r.0 = ready-fitting block img r.0 r.1 r.2 in
     record { block_fits = f.block_fits; image_fits = subst (λ (z : Shape). ImageFits z img) f.shape f.image }
 
@@ -139,7 +140,7 @@ module _ (block img : List ℕ) (h : Holds block img) where
   abbrev z₀ : Shape
   z₀ = shape block img
 
-  pub lookup-is : (key : List ℕ) → KeyFits z₀.settings key → lookup block img key ≡ from_find z₀ img key (find z₀ img key)
+  pub lookup-is : (key : List ℕ) → KeyFits z₀.settings key → lookup block img key ≡ Ok (from_find z₀ img key (find z₀ img key))
   unfolding lookup looked_up after_key after_value
   lookup-is key k =
       ap (looked_up img key)
@@ -147,7 +148,7 @@ module _ (block img : List ℕ) (h : Holds block img) where
       ∙ choose_yes (given_key_fits? z₀.settings (a_key key)) _ _ k
       ∙ choose_yes (given_value_fits? z₀.settings (a_key key)) _ _ tt)
 
-  pub lookup_misfit : (key : List ℕ) → (KeyFits z₀.settings key → ⊥) → lookup block img key ≡ looked.Refused Key
+  pub lookup_misfit : (key : List ℕ) → (KeyFits z₀.settings key → ⊥) → lookup block img key ≡ Err Key
   unfolding lookup looked_up after_key
   lookup_misfit key n = ap (looked_up img key) (asked-holds block img h (a_key key) ∙ choose_no (given_key_fits? z₀.settings (a_key key)) _ _ n)
 
@@ -167,16 +168,16 @@ module _ (block img : List ℕ) (b : Bytes img) (a : Accepted block img) where
   looks-up key = record { stored = there; none = not_there }
     where
       there : (e : Live) → Memᴰ e (live z img) → key_of img e.entry ≡ key
-          → lookup block img key ≡ looked.Found (place_of e)
+          → lookup block img key ≡ Ok (looked.Found (place_of e))
       there e m k =
           let fits : KeyFits z.settings key = rw k at (live-key-fits z img h.sound e (live_in_lem z img e m)) in
-          lookup-is block img h key fits ∙ ap (from_find z img key) (found-only z img h.sound key e m k)
+          lookup-is block img h key fits ∙ ap (λ (o : Option Live). Ok (from_find z img key o)) (found-only z img h.sound key e m k)
 
       not_there : KeyFits (settings_of block) key → map_get (map_of block img) key ≡ none
-          → lookup block img key ≡ looked.Absent (search_end z img key)
+          → lookup block img key ≡ Ok (looked.Absent (search_end z img key))
       not_there k g =
           lookup-is block img h key (subst (λ (st : Settings). KeyFits st key) (sym (shape-settings (settings_of block) img)) k)
-          ∙ ap (from_find z img key) (by-find (find z img key) refl)
+          ∙ ap (λ (o : Option Live). Ok (from_find z img key o)) (by-find (find z img key) refl)
         where
           by-find : (o : Option Live) → find z img key ≡ o → o ≡ none
           by-find none f = refl

@@ -8,6 +8,7 @@ use native.Mathlib.Omega.{arith}
 use lib.ListN.{length, take, drop}
 use denote.Ref.{Bor}
 use borrow.Rule.Slice.PartAt.{sl_partˢ}
+use Rattle.std.specs.Prelude.{Ok, Err}
 use Rattle.words.specs.Bytes.{Bytes}
 use Rattle.layout.specs.declared.Shape.{Shape}
 use Rattle.settings.specs.Rules.{largest}
@@ -32,16 +33,15 @@ use Rattle.edit.proofs.Finding.{find-live, search-found, search-none}
 use Rattle.edit.proofs.Replacing.{live-value}
 use Rattle.image.specs.declared.Stage.{Stage}
 use Rattle.image.specs.declared.Counts.{Counts}
-use Rattle.image.specs.declared.Examined.{Examined}
-use Rattle.image.specs.declared.Examined.TheVariants.{Ready, Refused}
-use Rattle.image.specs.Check.{examine}
+use Rattle.image.specs.Check.{Examined, examine}
 use Rattle.growing.specs.Growing.{no_bulk, grow_image}
 use Rattle.chronicle_map.specs.declared.RecordPlace.{RecordPlace}
 use Rattle.chronicle_map.specs.declared.SearchEnd.{SearchEnd}
+use Rattle.std.specs.Prelude.{Result, Ok, Err}
 use Rattle.chronicle_map.specs.declared.Located.{Located}
 use Rattle.chronicle_map.specs.declared.Located.TheVariants as located
-use Rattle.chronicle_map.specs.declared.Answer.{Answer}
-use Rattle.chronicle_map.specs.declared.Answer.TheVariants as answer
+use Rattle.chronicle_map.specs.declared.EditError.{EditError}
+use Rattle.chronicle_map.specs.declared.EditError.TheVariants as error
 use Rattle.chronicle_map.specs.Asked.{a_key, an_entry, asked}
 use Rattle.chronicle_map.specs.Calls.{place_of, from_find, looked_up, lookup, record_at, record_length, PartOf, RecordOf, remove_found, removing, remove, store_unless, storing, store, grow_unless, growing, grow}
 use Rattle.chronicle_map.proofs.Asking.{key-sound}
@@ -65,13 +65,13 @@ module _ (z : Shape) (img : List ℕ) (sound : SoundImage z img) (key : List ℕ
       (λ i. located.Found (record { offset = (ex i).valueAt; length = (ex i).valueLength; tier = t; slot = j }))
 
 module _ (block img key : List ℕ) {x : Examined} (ex : x ≡ asked block img (a_key key)) where
-  pub lookup-refused : (s : Stage) → x ≡ Refused s → located.Refused s ≡ lookup block img key
+  pub lookup-refused : (s : Stage) → x ≡ Err s → Err s ≡ lookup block img key
   unfolding lookup looked_up
   lookup-refused s e = ap (looked_up img key) (sym e ∙ ex)
 
-  pub lookup-ready : (z : Shape) (c : Counts) → x ≡ Ready z c → {r : Located} → r ≡ from_find z img key (find z img key) → r ≡ lookup block img key
+  pub lookup-ready : (z : Shape) (c : Counts) → x ≡ Ok (z, c) → {r : Located} → r ≡ from_find z img key (find z img key) → Ok r ≡ lookup block img key
   unfolding lookup looked_up
-  lookup-ready z c e er = er ∙ ap (looked_up img key) (sym e ∙ ex)
+  lookup-ready z c e er = ap Ok er ∙ ap (looked_up img key) (sym e ∙ ex)
 
 -- ---- the record: a found one stands within the image
 
@@ -86,12 +86,15 @@ found-by z img key sound (some x) f p e =
     (omega (arith, live-value z img sound x (live_in_lem z img x (find-live z img key x f).0)), sound.fits.frame.image_length.1)
 
 within_by : (block img key : List ℕ) → Bytes img → (x : Examined) → x ≡ asked block img (a_key key) → (p : RecordPlace)
-    → looked_up img key x ≡ located.Found p → (p.offset + p.length ≤ length img) × (length img ≤ largest)
+    → looked_up img key x ≡ Ok (located.Found p) → (p.offset + p.length ≤ length img) × (length img ≤ largest)
 unfolding looked_up
-within_by block img key b (Refused s) ex p e = absurd (let q : ◌≡◌ {A = ℕ} 0 1 = cc in omega arith)
-within_by block img key b (Ready z c) ex p e = found-by z img key (key-sound block img key z c ex refl b) (find z img key) refl p e
+within_by block img key b (Err s) ex p e = absurd (let q : ◌≡◌ {A = ℕ} 0 1 = cc in omega arith)
+within_by block img key b (Ok (z, c)) ex p e =
+    let f : from_find z img key (find z img key) ≡ located.Found p = cc in
+    found-by z img key (key-sound block img key z c ex refl b) (find z img key) refl p f
 
-pub record_within : (block img key : List ℕ) (r : Located) → r ≡ lookup block img key → Bytes img → (p : RecordPlace) → r ≡ located.Found p
+pub record_within : (block img key : List ℕ) (r : Result Located Stage) → r ≡ lookup block img key → Bytes img → (p : RecordPlace)
+    → r ≡ Ok (located.Found p)
     → (p.offset + p.length ≤ length img) × (length img ≤ largest)
 unfolding lookup
 record_within block img key r er b p e = within_by block img key b (asked block img (a_key key)) refl p (sym er ∙ e)
@@ -102,57 +105,58 @@ part_of lent at n =
     let q : at + n - at ≡ n = omega arith in
     record { memory = refl; start = omega arith; bytes = ap (λ (k : ℕ). take k (drop at lent.now)) q }
 
-module _ (block : List ℕ) (img : Bor (List ℕ)) (key : List ℕ) (r : Located) (er : r ≡ lookup block img.now key) where
+module _ (block : List ℕ) (img : Bor (List ℕ)) (key : List ℕ) (r : Result Located Stage) (er : r ≡ lookup block img.now key) where
   -- the part that the code cuts off is the record of what it found
-  record_is : (l : Located) → r ≡ l → RecordOf img (lookup block img.now key)
+  record_is : (l : Result Located Stage) → r ≡ l → RecordOf img (lookup block img.now key)
       (sl_partˢ img (record_at l + img.ref_ptr.1) (record_at l) (record_at l + record_length l))
   record_is l e =
-      subst (λ (x : Located). RecordOf img x (sl_partˢ img (record_at l + img.ref_ptr.1) (record_at l) (record_at l + record_length l))) (sym e ∙ er)
+      subst (λ (x : Result Located Stage). RecordOf img x (sl_partˢ img (record_at l + img.ref_ptr.1) (record_at l) (record_at l + record_length l)))
+      (sym e ∙ er)
       (part_of img (record_at l) (record_length l))
 
-  pub record_found : (p : RecordPlace) → r ≡ located.Found p → RecordOf img (lookup block img.now key)
+  pub record_found : (p : RecordPlace) → r ≡ Ok (located.Found p) → RecordOf img (lookup block img.now key)
       (sl_partˢ img (p.offset + img.ref_ptr.1) p.offset (p.offset + p.length))
   unfolding record_at record_length
-  record_found p e = record_is (located.Found p) e
+  record_found p e = record_is (Ok (located.Found p)) e
 
-  pub record_absent : (end : SearchEnd) → r ≡ located.Absent end → RecordOf img (lookup block img.now key) (sl_partˢ img (0 + img.ref_ptr.1) 0 0)
+  pub record_absent : (end : SearchEnd) → r ≡ Ok (located.Absent end) → RecordOf img (lookup block img.now key) (sl_partˢ img (0 + img.ref_ptr.1) 0 0)
   unfolding record_at record_length
-  record_absent end e = record_is (located.Absent end) e
+  record_absent end e = record_is (Ok (located.Absent end)) e
 
-  pub record_refused : (s : Stage) → r ≡ located.Refused s → RecordOf img (lookup block img.now key) (sl_partˢ img (0 + img.ref_ptr.1) 0 0)
+  pub record_refused : (s : Stage) → r ≡ Err s → RecordOf img (lookup block img.now key) (sl_partˢ img (0 + img.ref_ptr.1) 0 0)
   unfolding record_at record_length
-  record_refused s e = record_is (located.Refused s) e
+  record_refused s e = record_is (Err s) e
 
 -- ---- removal
 
 module _ (z : Shape) (img key : List ℕ) where
   done-by : (o : Option Live) {img' : List ℕ} → is_there o ≡ true → img' ≡ remove_image z img key
-      → record { answer = answer.Done; image = img' } ≡ remove_found z img key o
+      → record { answer = Ok tt; image = img' } ≡ remove_found z img key o
   unfolding remove_found
   done-by none t e = absurd (let q : ◌≡◌ {A = ℕ} 0 1 = cc in omega arith)
-  done-by (some x) t e = λ i. record { answer = answer.Done; image = e i }
+  done-by (some x) t e = λ i. record { answer = Ok tt; image = e i }
 
   absent_by : (o : Option Live) {img' : List ℕ} → find z img key ≡ o → is_there o ≡ false → img' ≡ remove_image z img key
-      → record { answer = answer.Absent; image = img' } ≡ remove_found z img key o
+      → record { answer = Err error.Absent; image = img' } ≡ remove_found z img key o
   unfolding remove_found remove_image removed_entry without_entry settle
   absent_by none f t e =
       let g : remove_image z img key ≡ img = ap (removed_entry z img) f ∙ main-stays z img 0 (omega arith) in
-      λ i. record { answer = answer.Absent; image = (e ∙ g) i }
+      λ i. record { answer = Err error.Absent; image = (e ∙ g) i }
   absent_by (some x) f t e = absurd (let q : ◌≡◌ {A = ℕ} 0 1 = cc in omega arith)
 
   module _ (r : Bool) (er : r ≡ is_there (find z img key)) {img' : List ℕ} (e : img' ≡ remove_image z img key) where
-    pub removed-done : r ≡ true → record { answer = answer.Done; image = img' } ≡ remove_found z img key (find z img key)
+    pub removed-done : r ≡ true → record { answer = Ok tt; image = img' } ≡ remove_found z img key (find z img key)
     removed-done t = done-by (find z img key) (sym er ∙ t) e
 
-    pub removed-absent : r ≡ false → record { answer = answer.Absent; image = img' } ≡ remove_found z img key (find z img key)
+    pub removed-absent : r ≡ false → record { answer = Err error.Absent; image = img' } ≡ remove_found z img key (find z img key)
     removed-absent t = absent_by (find z img key) refl (sym er ∙ t) e
 
 module _ (block img key : List ℕ) {x : Examined} (ex : x ≡ asked block img (a_key key)) where
-  pub remove-refused : (s : Stage) → x ≡ Refused s → record { answer = answer.Refused s; image = img } ≡ remove block img key
+  pub remove-refused : (s : Stage) → x ≡ Err s → record { answer = Err (error.Refused s); image = img } ≡ remove block img key
   unfolding remove removing
   remove-refused s e = ap (removing img key) (sym e ∙ ex)
 
-  pub remove-ready : (z : Shape) (c : Counts) → x ≡ Ready z c → {r : Answer} {img' : List ℕ}
+  pub remove-ready : (z : Shape) (c : Counts) → x ≡ Ok (z, c) → {r : Result (Unit {0}) EditError} {img' : List ℕ}
       → record { answer = r; image = img' } ≡ remove_found z img key (find z img key) → record { answer = r; image = img' } ≡ remove block img key
   unfolding remove removing
   remove-ready z c e er = er ∙ ap (removing img key) (sym e ∙ ex)
@@ -160,24 +164,24 @@ module _ (block img key : List ℕ) {x : Examined} (ex : x ≡ asked block img (
 -- ---- store
 
 module _ (policy : Policy) (z : Shape) (img key value : List ℕ) (r : Bool) {img' : List ℕ} (e : Stores policy z img key value r img') where
-  pub stored-done : r ≡ true → record { answer = answer.Done; image = img' } ≡ store_unless policy z img key value (no_room z img key value)
+  pub stored-done : r ≡ true → record { answer = Ok tt; image = img' } ≡ store_unless policy z img key value (no_room z img key value)
   unfolding store_unless
   stored-done t =
       let s : Stores policy z img key value true img' = subst (λ (b : Bool). Stores policy z img key value b img') t e in
-      rw s.0 (λ i. record { answer = answer.Done; image = s.1 i })
+      rw s.0 (λ i. record { answer = Ok tt; image = s.1 i })
 
-  pub stored-full : r ≡ false → record { answer = answer.Full; image = img' } ≡ store_unless policy z img key value (no_room z img key value)
+  pub stored-full : r ≡ false → record { answer = Err error.Full; image = img' } ≡ store_unless policy z img key value (no_room z img key value)
   unfolding store_unless
   stored-full t =
       let s : Stores policy z img key value false img' = subst (λ (b : Bool). Stores policy z img key value b img') t e in
-      rw s.0 (λ i. record { answer = answer.Full; image = s.1 i })
+      rw s.0 (λ i. record { answer = Err error.Full; image = s.1 i })
 
 module _ (policy : Policy) (block img key value : List ℕ) {x : Examined} (ex : x ≡ asked block img (an_entry key value)) where
-  pub store-refused : (s : Stage) → x ≡ Refused s → record { answer = answer.Refused s; image = img } ≡ store policy block img key value
+  pub store-refused : (s : Stage) → x ≡ Err s → record { answer = Err (error.Refused s); image = img } ≡ store policy block img key value
   unfolding store storing
   store-refused s e = ap (storing policy img key value) (sym e ∙ ex)
 
-  pub store-ready : (z : Shape) (c : Counts) → x ≡ Ready z c → {r : Answer} {img' : List ℕ}
+  pub store-ready : (z : Shape) (c : Counts) → x ≡ Ok (z, c) → {r : Result (Unit {0}) EditError} {img' : List ℕ}
       → record { answer = r; image = img' } ≡ store_unless policy z img key value (no_room z img key value)
       → record { answer = r; image = img' } ≡ store policy block img key value
   unfolding store storing
@@ -187,21 +191,21 @@ module _ (policy : Policy) (block img key value : List ℕ) {x : Examined} (ex :
 
 module _ (z : Shape) (img : List ℕ) where
   pub grow-full : {b : Bool} → b ≡ no_bulk z (length img) → b ≡ true
-      → record { answer = answer.NoBulk; image = img } ≡ grow_unless z img (no_bulk z (length img))
+      → record { answer = Err error.NoBulk; image = img } ≡ grow_unless z img (no_bulk z (length img))
   unfolding grow_unless
   grow-full e t = ap (grow_unless z img) (sym t ∙ e)
 
   pub grow-done : {b : Bool} → b ≡ no_bulk z (length img) → b ≡ false → {img' : List ℕ} → img' ≡ grow_image z img
-      → record { answer = answer.Done; image = img' } ≡ grow_unless z img (no_bulk z (length img))
+      → record { answer = Ok tt; image = img' } ≡ grow_unless z img (no_bulk z (length img))
   unfolding grow_unless
-  grow-done e t f = (λ i. record { answer = answer.Done; image = f i }) ∙ ap (grow_unless z img) (sym t ∙ e)
+  grow-done e t f = (λ i. record { answer = Ok tt; image = f i }) ∙ ap (grow_unless z img) (sym t ∙ e)
 
 module _ (block img : List ℕ) {x : Examined} (ex : x ≡ examine block img) where
-  pub grow-refused : (s : Stage) → x ≡ Refused s → record { answer = answer.Refused s; image = img } ≡ grow block img
+  pub grow-refused : (s : Stage) → x ≡ Err s → record { answer = Err (error.Refused s); image = img } ≡ grow block img
   unfolding grow growing
   grow-refused s e = ap (growing img) (sym e ∙ ex)
 
-  pub grow-ready : (z : Shape) (c : Counts) → x ≡ Ready z c → {r : Answer} {img' : List ℕ}
+  pub grow-ready : (z : Shape) (c : Counts) → x ≡ Ok (z, c) → {r : Result (Unit {0}) EditError} {img' : List ℕ}
       → record { answer = r; image = img' } ≡ grow_unless z img (no_bulk z (length img)) → record { answer = r; image = img' } ≡ grow block img
   unfolding grow growing
   grow-ready z c e er = er ∙ ap (growing img) (sym e ∙ ex)

@@ -34,6 +34,7 @@ use Rattle.image.specs.List.{pick, from_nth, from_examined, entry}
 use Rattle.edit.specs.declared.Policy.{Policy}
 use Rattle.edit.specs.Edits.{find}
 use Rattle.edit.proofs.Roomy.{room-when-free}
+use Rattle.std.specs.Prelude.{Ok}
 use Rattle.chronicle_map.specs.declared.Located.TheVariants as looked
 use Rattle.chronicle_map.specs.Calls.{end_in, search_end, from_find, lookup, Edited, answer_number, store, grow_unless, growing, grow}
 use Rattle.chronicle_map.specs.History.{grows, leaves, map_of}
@@ -95,9 +96,9 @@ module _ (block img : List ℕ) (h : Holds block img) where
         ∙ sym (lookup_misfit block img h key n)
     lookup-same key (yes k) =
         lookup-is block after after_holds key (subst (λ (x : Shape). KeyFits x.settings key) shape_is k)
-        ∙ ap (λ (x : Shape). from_find x after key (find x after key)) (sym shape_is)
-        ∙ ap (from_find (grown z) after key) (find-same key)
-        ∙ from-same key (find z img key)
+        ∙ ap (λ (x : Shape). Ok (from_find x after key (find x after key))) (sym shape_is)
+        ∙ ap (λ (o : Option Live). Ok (from_find (grown z) after key o)) (find-same key)
+        ∙ ap Ok (from-same key (find z img key))
         ∙ sym (lookup-is block img h key k)
 
     list_same : (n : ℕ) → entry block after n ≡ entry block img n

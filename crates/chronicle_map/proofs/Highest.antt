@@ -3,10 +3,11 @@ use Prim.Native.Nat.{ℕ, ◌≤◌}
 use mathlib.Core.List.{List}
 use mathlib.Core.Logic.{◌≢◌}
 use native.Mathlib.Omega.{arith}
+use Rattle.std.specs.Prelude.{Result, Ok, Err}
 use Rattle.lists.proofs.Decides.{choose-by}
 use Rattle.settings.specs.declared.Settings.{Settings}
-use Rattle.settings.specs.declared.Parsed.{Parsed}
-use Rattle.settings.specs.declared.Parsed.TheVariants.{Accepted as parsed, BadBlock, BadField}
+use Rattle.settings.specs.declared.ParseError.{ParseError}
+use Rattle.settings.specs.declared.ParseError.TheVariants as fault
 use Rattle.settings.specs.Block.{parse}
 use Rattle.layout.specs.declared.Shape.{Shape}
 use Rattle.layout.specs.Frame.{shape_of, frame_fits?}
@@ -16,17 +17,15 @@ use Rattle.chunks.specs.Chunks.{chunks_fit?}
 use Rattle.image.specs.declared.Stage.{Stage}
 use Rattle.image.specs.declared.Stage.TheVariants.{Block, Field, Frame, Chains, Entries, Chunks, Key, Value, Walk}
 use Rattle.image.specs.declared.Counts.{Counts}
-use Rattle.image.specs.declared.Examined.{Examined}
-use Rattle.image.specs.declared.Examined.TheVariants.{Ready, Refused}
-use Rattle.image.specs.Check.{stage_number, after_chunks, after_entries, after_chains, after_frame, after_block, examine}
+use Rattle.image.specs.Check.{Examined, stage_number, stage_of, after_chunks, after_entries, after_chains, after_frame, after_block, examine}
 use Rattle.chronicle_map.specs.Asked.{Given, nothing, a_key, an_entry, GivenKeyFits, given_key_fits?, GivenValueFits, given_value_fits?, after_value, after_key, after_examined, asked}
 
 -- ---- which stages refuse
 
 -- a refusal's number is at most n
 abbrev pub Most : ℕ → Examined → Type 0
-Most n (Refused s) = stage_number s ≤ n
-Most n (Ready z c) = Unit {0}
+Most n (Err s) = stage_number s ≤ n
+Most n (Ok (z, c)) = Unit {0}
 
 frame-most : (z : Shape) (img : List ℕ) → Most 7 (after_frame z img (frame_fits? z img))
 unfolding after_frame after_chains after_entries after_chunks
@@ -36,11 +35,14 @@ frame-most z img =
     choose-by (entries_fit? z img) _ _ (Most 7) (λ _. omega arith) λ _.
     choose-by (chunks_fit? z img) _ _ (Most 7) (λ _. omega arith) λ _. tt
 
-block-most : (img : List ℕ) (p : Parsed) → Most 7 (after_block img p)
+block-refused : (e : ParseError) → Most 7 (Err (stage_of e))
+block-refused fault.Block = omega arith
+block-refused fault.Field = omega arith
+
+block-most : (img : List ℕ) (p : Result Settings ParseError) → Most 7 (after_block img p)
 unfolding after_block
-block-most img BadBlock = omega arith
-block-most img BadField = omega arith
-block-most img (parsed st) = frame-most (shape_of st img) img
+block-most img (Err e) = block-refused e
+block-most img (Ok st) = frame-most (shape_of st img) img
 
 pub examine-most : (block img : List ℕ) → Most 7 (examine block img)
 unfolding examine
@@ -76,8 +78,8 @@ highest-least (an_entry key value) = omega arith
 
 examined-most : (g : Given) (x : Examined) → Most 7 x → Most (highest g) (after_examined g x)
 unfolding after_examined
-examined-most g (Refused s) w = omega (arith, w, highest-least g)
-examined-most g (Ready z c) w = given-most z c g
+examined-most g (Err s) w = omega (arith, w, highest-least g)
+examined-most g (Ok (z, c)) w = given-most z c g
 
 pub asked-most : (block img : List ℕ) (g : Given) → Most (highest g) (asked block img g)
 unfolding asked
@@ -97,8 +99,8 @@ stage-least Walk = omega arith
 -- ---- a key that fits is never refused with 8
 
 abbrev pub Not8 : Examined → Type 0
-Not8 (Refused s) = stage_number s ≢ 8
-Not8 (Ready z c) = Unit {0}
+Not8 (Err s) = stage_number s ≢ 8
+Not8 (Ok (z, c)) = Unit {0}
 
 given-not-8 : (z : Shape) (c : Counts) (g : Given) → GivenKeyFits z.settings g → Not8 (after_key z c g (given_key_fits? z.settings g))
 unfolding after_key after_value
@@ -108,8 +110,8 @@ given-not-8 z c g fits =
 
 examined-not-8 : (g : Given) → ((st : Settings) → GivenKeyFits st g) → (x : Examined) → Most 7 x → Not8 (after_examined g x)
 unfolding after_examined
-examined-not-8 g fits (Refused s) w = omega arith
-examined-not-8 g fits (Ready z c) w = given-not-8 z c g (fits z.settings)
+examined-not-8 g fits (Err s) w = omega arith
+examined-not-8 g fits (Ok (z, c)) w = given-not-8 z c g (fits z.settings)
 
 pub asked-not-8 : (block img : List ℕ) (g : Given) → ((st : Settings) → GivenKeyFits st g) → Not8 (asked block img g)
 unfolding asked

@@ -4,6 +4,7 @@ use mathlib.Core.List.{List, Memᴰ}
 use mathlib.Core.Path.{◌≡◌, refl, ap, sym, ◌∙◌}
 use mathlib.Core.Option.{Option, none, some}
 use native.Mathlib.Omega.{arith}
+use Rattle.std.specs.Prelude.{Ok, Err}
 use Rattle.words.specs.Bytes.{Bytes}
 use Rattle.settings.specs.Block.{settings_of}
 use Rattle.layout.specs.declared.Shape.{Shape}
@@ -16,14 +17,13 @@ use Rattle.edit.specs.declared.Policy.{Policy}
 use Rattle.image.specs.declared.Stage.{Stage}
 use Rattle.image.specs.declared.Outcome.TheVariants as outcome
 use Rattle.image.specs.declared.Verdict.{Verdict}
-use Rattle.image.specs.declared.Examined.{Examined}
-use Rattle.image.specs.declared.Examined.TheVariants.{Ready, Refused}
-use Rattle.image.specs.Check.{examine, verdict_of, check}
+use Rattle.image.specs.Check.{Examined, examine, verdict_of, check}
 use Rattle.edit.specs.Edits.{find}
 use Rattle.edit.proofs.Finding.{find-live}
 use Rattle.chronicle_map.specs.declared.RecordPlace.{RecordPlace}
+use Rattle.std.specs.Prelude.{Ok, Err}
 use Rattle.chronicle_map.specs.declared.Located.TheVariants as looked
-use Rattle.chronicle_map.specs.declared.Answer.TheVariants as answer
+use Rattle.chronicle_map.specs.declared.EditError.TheVariants as error
 use Rattle.chronicle_map.specs.Asked.{Given, a_key, an_entry, after_examined, asked}
 use Rattle.chronicle_map.specs.Calls.{place_of, search_end, lookup, record_at, record_length, record_bytes, store}
 use Rattle.chronicle_map.specs.History.{stores, leaves, map_of, map_get}
@@ -36,24 +36,24 @@ use Rattle.chronicle_map.proofs.Altering.{demand2}
 
 -- ---- the check's refusal is every call's
 
-refused-by : (x : Examined) (s : Stage) → verdict_of x ≡ record { outcome = outcome.Refused s } → x ≡ Refused s
+refused-by : (x : Examined) (s : Stage) → verdict_of x ≡ record { outcome = outcome.Refused s } → x ≡ Err s
 unfolding verdict_of
-refused-by (Refused r) s e =
+refused-by (Err r) s e =
     let f : outcome.Refused r ≡ outcome.Refused s = ap (λ (v : Verdict). v.outcome) e in
     let q : r ≡ s = cc in
-    ap Refused q
-refused-by (Ready z c) s e =
+    ap Err q
+refused-by (Ok (z, c)) s e =
     absurd (let f : outcome.Accepted c ≡ outcome.Refused s = ap (λ (v : Verdict). v.outcome) e in let q : ◌≡◌ {A = ℕ} 0 1 = cc in omega arith)
 
 module _ (block img : List ℕ) (s : Stage) (e : check block img ≡ record { outcome = outcome.Refused s }) where
-  asked-refused : (g : Given) → asked block img g ≡ Refused s
+  asked-refused : (g : Given) → asked block img g ≡ Err s
   unfolding check asked after_examined
   asked-refused g = ap (after_examined g) (refused-by (examine block img) s e)
 
-  pub check-lookup : (key : List ℕ) → lookup block img key ≡ looked.Refused s
+  pub check-lookup : (key : List ℕ) → lookup block img key ≡ Err s
   check-lookup key = sym (lookup-refused block img key refl s (asked-refused (a_key key)))
 
-  pub check-store : (policy : Policy) (key value : List ℕ) → store policy block img key value ≡ record { answer = answer.Refused s; image = img }
+  pub check-store : (policy : Policy) (key value : List ℕ) → store policy block img key value ≡ record { answer = Err (error.Refused s); image = img }
   check-store policy key value = sym (store-refused policy block img key value refl s (asked-refused (an_entry key value)))
 
 -- ---- on an accepted image
@@ -61,8 +61,8 @@ module _ (block img : List ℕ) (s : Stage) (e : check block img ≡ record { ou
 -- the record of this key and record is found
 pub record Looked (block img key : List ℕ) (p : Pair) : Type 0 where
   pub place : RecordPlace
-  pub found : lookup block img key ≡ looked.Found place
-  pub bytes : record_bytes img (looked.Found place) ≡ p.value
+  pub found : lookup block img key ≡ Ok (looked.Found place)
+  pub bytes : record_bytes img (Ok (looked.Found place)) ≡ p.value
 
 module _ (block img : List ℕ) (b : Bytes img) (a : Accepted block img) where
   abbrev z : Shape
@@ -93,7 +93,7 @@ module _ (block img : List ℕ) (b : Bytes img) (a : Accepted block img) where
           }
 
   pub lookup-none : (key : List ℕ) → KeyFits (settings_of block) key → map_get (map_of block img) key ≡ none
-      → lookup block img key ≡ looked.Absent (search_end z img key)
+      → lookup block img key ≡ Ok (looked.Absent (search_end z img key))
   lookup-none key fits g = ((demand2 block img b a).lookups key).none fits g
 
   -- a store leaves bytes

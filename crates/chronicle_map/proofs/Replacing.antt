@@ -34,7 +34,7 @@ use Rattle.edit.proofs.Policies.{spot-some}
 use Rattle.edit.proofs.Roomy.{replacement-room}
 use Rattle.edit.proofs.OnTheSpot.{WritesOver, rewrites, spot_is}
 use Rattle.edit.proofs.Stored.{store-sound, store-pairs}
-use Rattle.chronicle_map.specs.declared.Answer.TheVariants as answer
+use Rattle.std.specs.Prelude.{Ok}
 use Rattle.chronicle_map.specs.Asked.{an_entry, given_key_fits?, given_value_fits?, after_value, after_key}
 use Rattle.chronicle_map.specs.Calls.{Edited, answer_number, store_unless, storing, store}
 use Rattle.chronicle_map.specs.History.{stores, map_of, map_get, told_of}
@@ -61,7 +61,7 @@ module _ (block img : List ℕ) (h : Holds block img) where
     -- ---- nor anything else but 0 where the key and the record fit
 
     store_is : KeyFits z.settings key → ValueFits z.settings (length key) (length value)
-        → store policy block img key value ≡ record { answer = answer.Done; image = store_image policy z img key value }
+        → store policy block img key value ≡ record { answer = Ok tt; image = store_image policy z img key value }
     unfolding store storing store_unless after_key after_value
     store_is k v =
         ap (storing policy img key value)
@@ -102,7 +102,7 @@ module _ {block img : List ℕ} {e : Live} {key value : List ℕ} (r : Replaceme
   room = replacement-room z' img r.holds.sound key value e found (omega (arith, r.as_many))
 
   module _ (policy : Policy) where
-    stored : store policy block img key value ≡ record { answer = answer.Done; image = store_image policy z' img key value }
+    stored : store policy block img key value ≡ record { answer = Ok tt; image = store_image policy z' img key value }
     stored = store_is block img r.holds key value room policy storable.key_fits storable.value_fits
 
     pub is-done : answer_number (store policy block img key value).answer ≡ 0

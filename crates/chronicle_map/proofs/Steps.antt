@@ -23,11 +23,11 @@ use Rattle.growing.specs.Growing.{grown, no_bulk, grow_image}
 use Rattle.growing.proofs.Sound.{grow-sound, grow-pairs}
 use Rattle.edit.specs.declared.Policy.{Policy}
 use Rattle.image.specs.declared.Stage.TheVariants.{Key, Value}
-use Rattle.image.specs.declared.Examined.{Examined}
-use Rattle.image.specs.Check.{counts_of}
+use Rattle.image.specs.Check.{Examined, counts_of}
 use Rattle.edit.specs.Edits.{find, no_room, store_image}
 use Rattle.edit.specs.Replaced.{Storable}
-use Rattle.chronicle_map.specs.declared.Answer.TheVariants as answer
+use Rattle.std.specs.Prelude.{Ok, Err}
+use Rattle.chronicle_map.specs.declared.EditError.TheVariants as error
 use Rattle.chronicle_map.specs.Asked.{Given, a_key, an_entry, GivenKeyFits, given_key_fits?, GivenValueFits, given_value_fits?, after_value, after_key, after_examined, asked}
 use Rattle.chronicle_map.specs.Calls.{number_of, from_find, looked_up, lookup, lookup_numbers, record_at, record_length, record_bytes, Edited, answer_number, remove_found, removing, remove, store_unless, storing, store, grow_unless, growing, grow}
 use Rattle.chronicle_map.specs.History.{Call, looks_up, stores, removes, grows, Said, says, leaves, told_of, Map, has_key, map_of, map_get, map_set, map_drop, Recalled, map_lookup, map_remove, map_store, map_grow, unless_value, unless_key, unless, recall}
@@ -46,7 +46,7 @@ asked-holds block img h g = ap (after_examined g) (holds-ready block img h)
 
 -- a store there, by whether key and record fit
 module _ (block img : List ℕ) (h : Holds block img) (policy : Policy) (key value : List ℕ) (P : Edited → Type 0)
-    (badKey : P (record { answer = answer.Refused Key; image = img })) (badValue : P (record { answer = answer.Refused Value; image = img }))
+    (badKey : P (record { answer = Err (error.Refused Key); image = img })) (badValue : P (record { answer = Err (error.Refused Value); image = img }))
     (fits : KeyFits (shape block img).settings key → ValueFits (shape block img).settings (length key) (length value)
     → P (store_unless policy (shape block img) img key value (no_room (shape block img) img key value))) where
   abbrev st : Settings
@@ -78,7 +78,7 @@ module _ (block img : List ℕ) (h : Holds block img) (m : Map) (w : Weigh (map_
   says_of x key = record { number = number_of (lookup_numbers (looked_up img key x)); bytes = record_bytes img (looked_up img key x) }
 
   found-said : (key : List ℕ) (o : Option Live) → find z img key ≡ o
-      → record { number = number_of (lookup_numbers (from_find z img key o)); bytes = record_bytes img (from_find z img key o) }
+      → record { number = number_of (lookup_numbers (Ok (from_find z img key o))); bytes = record_bytes img (Ok (from_find z img key o)) }
       ≡ (map_lookup m (map_get m key)).said
   unfolding from_find record_bytes record_at record_length map_lookup
   found-said key none f = rw (map-none z img h.sound m w key f)

@@ -9,14 +9,14 @@ use Rattle.image.specs.declared.Stage.{Stage}
 use Rattle.image.specs.declared.Stage.TheVariants.{Block, Field, Frame, Chains, Entries, Chunks, Key, Value, Walk}
 use Rattle.image.specs.declared.Outcome.{Outcome}
 use Rattle.image.specs.declared.Outcome.TheVariants as outcome
-use Rattle.image.specs.declared.Listed.{Listed}
-use Rattle.image.specs.declared.Listed.TheVariants as listed
+use Rattle.std.specs.Prelude.{Option, Some, None, Result, Ok, Err}
+use Rattle.entries.specs.declared.Live.{Live}
 use Rattle.image.specs.Check.{stage_number, outcome_numbers}
 use Rattle.image.specs.List.{listed_numbers}
 use Rattle.chronicle_map.specs.declared.Located.{Located}
 use Rattle.chronicle_map.specs.declared.Located.TheVariants as looked
-use Rattle.chronicle_map.specs.declared.Answer.{Answer}
-use Rattle.chronicle_map.specs.declared.Answer.TheVariants as answer
+use Rattle.chronicle_map.specs.declared.EditError.{EditError}
+use Rattle.chronicle_map.specs.declared.EditError.TheVariants as error
 use Rattle.chronicle_map.specs.Calls.{number_of, lookup_numbers, answer_number}
 use Rattle.chronicle_map.specs.Demands.{Tells, IsAbsent}
 use Rattle.chronicle_map.proofs.Highest.{stage-least}
@@ -59,33 +59,34 @@ checks-told = tells-by _ (numbered outcome.Refused none none none) back
     back (outcome.Accepted c) ne = absurd (ne refl)
     back (outcome.Refused s) ne = stage-numbered outcome.Refused none none none s
 
-pub lists-told : Tells (λ (l : Listed). number_of (listed_numbers l))
+pub lists-told : Tells (λ l. number_of (listed_numbers l))
 unfolding numbered answers_to18
-lists-told = tells-by _ (numbered listed.Refused listed.Past listed.Past listed.Past) back
+lists-told = tells-by _ (numbered Err (Ok None) (Ok None) (Ok None)) back
   where
-    back : (l : Listed) → number_of (listed_numbers l) ≢ 0
-        → numbered listed.Refused listed.Past listed.Past listed.Past (number_of (listed_numbers l)) ≡ l
-    back (listed.Row e) ne = absurd (ne refl)
-    back listed.Past ne = refl
-    back (listed.Refused s) ne = stage-numbered listed.Refused listed.Past listed.Past listed.Past s
+    back : (l : Result (Option Live) Stage) → number_of (listed_numbers l) ≢ 0
+        → numbered Err (Ok None) (Ok None) (Ok None) (number_of (listed_numbers l)) ≡ l
+    back (Ok (Some e)) ne = absurd (ne refl)
+    back (Ok None) ne = refl
+    back (Err s) ne = stage-numbered Err (Ok None) (Ok None) (Ok None) s
 
-pub lookups-told : (a b : Located) → number_of (lookup_numbers a) ≢ 0 → number_of (lookup_numbers a) ≡ number_of (lookup_numbers b)
+pub lookups-told : (a b : Result Located Stage) → number_of (lookup_numbers a) ≢ 0 → number_of (lookup_numbers a) ≡ number_of (lookup_numbers b)
     → (a ≡ b) ⊎ (IsAbsent a × IsAbsent b)
-lookups-told (looked.Found p) b ne e = absurd (ne refl)
-lookups-told (looked.Absent x) (looked.Found p) ne e = absurd (ne e)
-lookups-told (looked.Absent x) (looked.Absent y) ne e = inr ((x, refl), (y, refl))
-lookups-told (looked.Absent x) (looked.Refused s) ne e = absurd (omega (arith, stage-least s))
-lookups-told (looked.Refused s) (looked.Found p) ne e = absurd (ne e)
-lookups-told (looked.Refused s) (looked.Absent x) ne e = absurd (omega (arith, stage-least s))
-lookups-told (looked.Refused s) (looked.Refused r) ne e = inl (ap looked.Refused (stages_told_lem s r ne e))
+lookups-told (Ok (looked.Found p)) b ne e = absurd (ne refl)
+lookups-told (Ok (looked.Absent x)) (Ok (looked.Found p)) ne e = absurd (ne e)
+lookups-told (Ok (looked.Absent x)) (Ok (looked.Absent y)) ne e = inr ((x, refl), (y, refl))
+lookups-told (Ok (looked.Absent x)) (Err s) ne e = absurd (omega (arith, stage-least s))
+lookups-told (Err s) (Ok (looked.Found p)) ne e = absurd (ne e)
+lookups-told (Err s) (Ok (looked.Absent x)) ne e = absurd (omega (arith, stage-least s))
+lookups-told (Err s) (Err r) ne e = inl (ap Err (stages_told_lem s r ne e))
 
 pub edits_told_lem : Tells answer_number
 unfolding numbered answers_to18
-edits_told_lem = tells-by _ (numbered answer.Refused answer.Absent answer.Full answer.NoBulk) back
+edits_told_lem = tells-by _ (numbered (λ s. Err (error.Refused s)) (Err error.Absent) (Err error.Full) (Err error.NoBulk)) back
   where
-    back : (a : Answer) → answer_number a ≢ 0 → numbered answer.Refused answer.Absent answer.Full answer.NoBulk (answer_number a) ≡ a
-    back answer.Done ne = absurd (ne refl)
-    back answer.Absent ne = refl
-    back answer.Full ne = refl
-    back answer.NoBulk ne = refl
-    back (answer.Refused s) ne = stage-numbered answer.Refused answer.Absent answer.Full answer.NoBulk s
+    back : (a : Result (Unit {0}) EditError) → answer_number a ≢ 0
+        → numbered (λ s. Err (error.Refused s)) (Err error.Absent) (Err error.Full) (Err error.NoBulk) (answer_number a) ≡ a
+    back (Ok _) ne = absurd (ne refl)
+    back (Err error.Absent) ne = refl
+    back (Err error.Full) ne = refl
+    back (Err error.NoBulk) ne = refl
+    back (Err (error.Refused s)) ne = stage-numbered (λ s. Err (error.Refused s)) (Err error.Absent) (Err error.Full) (Err error.NoBulk) s

@@ -30,6 +30,7 @@ use Rattle.placement.proofs.Rewritten.{rewrite-sound, rewrite-own, rewrite-own-p
 use Rattle.edit.specs.declared.Policy.TheVariants.{OnTheSpot}
 use Rattle.edit.specs.Edits.{find}
 use Rattle.edit.proofs.Views.{live-stays, find-stays, last-stays, empty-stays, offset-stays}
+use Rattle.std.specs.Prelude.{Ok}
 use Rattle.chronicle_map.specs.declared.Located.TheVariants as looked
 use Rattle.chronicle_map.specs.Calls.{end_in, search_end, from_find, lookup, store}
 use Rattle.chronicle_map.specs.Demands.{shape, Accepted, SameSize, Replacements}
@@ -90,9 +91,9 @@ module _ {block img : List ℕ} {e : Live} {key value : List ℕ} (r : Replaceme
         ∙ sym (lookup_misfit block img r.holds other n)
     by-fit (yes k) =
         lookup-is block m m-holds other (subst (λ (x : Shape). KeyFits x.settings other) same_shape k)
-        ∙ ap (λ (x : Shape). from_find x m other (find x m other)) (sym same_shape)
-        ∙ ap (from_find z m other) (find-stays w other ne)
-        ∙ from-find (find z img other)
+        ∙ ap (λ (x : Shape). Ok (from_find x m other (find x m other))) (sym same_shape)
+        ∙ ap (λ (o : Option Live). Ok (from_find z m other o)) (find-stays w other ne)
+        ∙ ap Ok (from-find (find z img other))
         ∙ sym (lookup-is block img r.holds other k)
 
     lookups : lookup block after other ≡ lookup block img other

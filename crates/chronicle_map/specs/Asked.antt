@@ -1,5 +1,5 @@
 -- The order of refusals, for all calls: the lowest of 2 to 9 that applies.
-use Rattle.std.specs.Prelude.{ℕ, List, length}
+use Rattle.std.specs.Prelude.{ℕ, List, length, Ok, Err}
 use Rattle.lists.specs.Decide.{choose}
 use Rattle.settings.specs.declared.Settings.{Settings}
 use Rattle.entries.specs.Keys.{KeyFits, key_fits?}
@@ -7,9 +7,7 @@ use Rattle.entries.specs.Stored.{ValueFits, value_fits?}
 use Rattle.layout.specs.declared.Shape.{Shape}
 use Rattle.image.specs.declared.Counts.{Counts}
 use Rattle.image.specs.declared.Stage.TheVariants.{Key, Value}
-use Rattle.image.specs.declared.Examined.{Examined}
-use Rattle.image.specs.declared.Examined.TheVariants.{Ready, Refused}
-use Rattle.image.specs.Check.{examine}
+use Rattle.image.specs.Check.{Examined, examine}
 
 -- what a call is given beside the block and the image
 pub data Given : Type 0 where
@@ -40,14 +38,14 @@ given_value_fits? st (an_entry key value) = value_fits? st (length key) (length 
 
 -- 8 before 9; each after 2 to 7
 unfoldable pub after_value : (z : Shape) → Counts → (g : Given) → Dec (GivenValueFits z.settings g) → Examined
-after_value z c g d = choose d (λ _. Refused Value) (λ _. Ready z c)
+after_value z c g d = choose d (λ _. Err Value) (λ _. Ok (z, c))
 
 unfoldable pub after_key : (z : Shape) → Counts → (g : Given) → Dec (GivenKeyFits z.settings g) → Examined
-after_key z c g d = choose d (λ _. Refused Key) (λ _. after_value z c g (given_value_fits? z.settings g))
+after_key z c g d = choose d (λ _. Err Key) (λ _. after_value z c g (given_value_fits? z.settings g))
 
 unfoldable pub after_examined : Given → Examined → Examined
-after_examined g (Refused s) = Refused s
-after_examined g (Ready z c) = after_key z c g (given_key_fits? z.settings g)
+after_examined g (Err s) = Err s
+after_examined g (Ok (z, c)) = after_key z c g (given_key_fits? z.settings g)
 
 unfoldable pub asked : List ℕ → List ℕ → Given → Examined
 asked block img g = after_examined g (examine block img)

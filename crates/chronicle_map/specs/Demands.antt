@@ -1,5 +1,5 @@
 -- What is claimed of the calls: demands 1 and 2 for one call, demand 3 for a whole list of them.
-use Rattle.std.specs.Prelude.{ℕ, suc, ◌*◌, ◌/◌, ◌≤◌, ◌<◌, ◌≡◌, ◌≢◌, ◌⊎◌, Bool, true, false, ◌&&◌, eqb, length, get_or, take, drop, replicate}
+use Rattle.std.specs.Prelude.{ℕ, suc, ◌*◌, ◌/◌, ◌≤◌, ◌<◌, ◌≡◌, ◌≢◌, ◌⊎◌, Bool, true, false, ◌&&◌, eqb, length, get_or, take, drop, replicate, Result, Ok}
 use mathlib.Core.List.{List, [], ◌∷◌, ◌++◌, Memᴰ}
 use Rattle.std.proofs.Math.Option.{Option, none, some}
 use Rattle.lists.specs.Lists.{span, how_many, total}
@@ -30,7 +30,7 @@ use Rattle.edit.specs.Edits.{remove_tiers, store_tiers, spot_of, taking_tier}
 use Rattle.image.specs.declared.Counts.{Counts}
 use Rattle.image.specs.declared.Outcome.{Outcome}
 use Rattle.image.specs.declared.Outcome.TheVariants as outcome
-use Rattle.image.specs.declared.Listed.{Listed}
+use Rattle.image.specs.declared.Stage.{Stage}
 use Rattle.image.specs.Check.{stage_number, check, outcome_numbers, verdict_numbers}
 use Rattle.image.specs.List.{entry, listed_numbers}
 use Rattle.chronicle_map.specs.declared.SearchEnd.{SearchEnd}
@@ -69,8 +69,8 @@ module _ (z : Shape) (img key : List ℕ) where
     pub full_before : Below slots (λ k. from_start k < from_start j → slot_at z img t k ≢ 0)
 
 -- a lookup's answer for an absent key
-abbrev pub IsAbsent : Located → Type 0
-IsAbsent l = (e : SearchEnd) × (l ≡ looked.Absent e)
+abbrev pub IsAbsent : Result Located Stage → Type 0
+IsAbsent l = (e : SearchEnd) × (l ≡ Ok (looked.Absent e))
 
 -- the same of a lookup's number, offset, length, tier and slot, with one exception: with 1, tier and slot say where the search ended
 pub record LookupAnswers (block img key may ns : List ℕ) : Type 0 where
@@ -100,8 +100,8 @@ pub record Demand1 (block img : List ℕ) : Type 0 where
   -- each refusal has a number of its own; two absent keys share theirs, wherever the searches ended
   pub stages_told : Tells stage_number
   pub checks_told : Tells (λ (v : Outcome). number_of (outcome_numbers v))
-  pub lists_told : Tells (λ (l : Listed). number_of (listed_numbers l))
-  pub lookups_told : (a b : Located) → number_of (lookup_numbers a) ≢ 0 → number_of (lookup_numbers a) ≡ number_of (lookup_numbers b)
+  pub lists_told : Tells (λ l. number_of (listed_numbers l))
+  pub lookups_told : (a b : Result Located Stage) → number_of (lookup_numbers a) ≢ 0 → number_of (lookup_numbers a) ≡ number_of (lookup_numbers b)
       → (a ≡ b) ⊎ (IsAbsent a × IsAbsent b)
   pub edits_told : Tells answer_number
 
@@ -132,9 +132,9 @@ pub record Fits (block img : List ℕ) : Type 0 where
 -- a lookup gives the record stored under the whole key, or says there is none
 pub record LooksUp (block img key : List ℕ) : Type 0 where
   pub stored : (e : Live) → Memᴰ e (live (shape block img) img) → key_of img e.entry ≡ key
-      → lookup block img key ≡ looked.Found (place_of e)
+      → lookup block img key ≡ Ok (looked.Found (place_of e))
   pub none : KeyFits (settings_of block) key → map_get (map_of block img) key ≡ none
-      → lookup block img key ≡ looked.Absent (search_end (shape block img) img key)
+      → lookup block img key ≡ Ok (looked.Absent (search_end (shape block img) img key))
 
 -- two images read as the same map: the same keys with the same records, in any order
 abbrev pub SameMap : List ℕ → List ℕ → List ℕ → Type 0

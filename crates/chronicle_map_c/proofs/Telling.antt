@@ -2,10 +2,10 @@
 use Prim.Native.Nat.{ℕ}
 use mathlib.Core.List.{List, ◌∷◌}
 use mathlib.Core.Path.{◌≡◌, ap, sym, ◌∙◌}
-use Rattle.chronicle_map.specs.declared.Answer.{Answer}
-use Rattle.chronicle_map.specs.Calls.{Edited, answer_number}
-use Rattle.pairs.specs.declared.SetAnswer.{SetAnswer}
-use Rattle.pairs.specs.Delays.{Setting, set_number}
+use Rattle.std.specs.Prelude.{Result, Ok, Err, MatchResult}
+use Rattle.chronicle_map.specs.declared.EditError.{EditError}
+use Rattle.chronicle_map.specs.Calls.{Edited, error_number, answer_number}
+use Rattle.pairs.specs.Delays.{SetAnswer, Setting, set_error_number, set_number}
 
 -- the answer r is due to be x, and was found to be y
 module _ {A B : Type 0} (numbers : A → B) {r x y : A} (found : r ≡ y) (due : r ≡ x) where
@@ -26,10 +26,18 @@ module _ {X : Type 0} (number : X → ℕ) (image : X → List ℕ) where
   left : {n : ℕ} {y x : X} → n ≡ number y → y ≡ x → (n ≡ number x) × (image y ≡ image x)
   left e due = (e ∙ ap number due, ap image due)
 
-pub edited : {n : ℕ} {r : Answer} {img : List ℕ} {x : Edited} → n ≡ answer_number r → record { answer = r; image = img } ≡ x
-    → (n ≡ answer_number x.answer) × (img ≡ x.image)
-edited e due = left (λ (y : Edited). answer_number y.answer) (λ (y : Edited). y.image) e due
+answer_is : {n : ℕ} (r : Result (Unit {0}) EditError) → MatchResult r (λ _. n ≡ 0) (λ e. n ≡ error_number e) → n ≡ answer_number r
+answer_is (Ok _) m = m
+answer_is (Err e) m = m
 
-pub delay-set : {n : ℕ} {r : SetAnswer} {img : List ℕ} {x : Setting} → n ≡ set_number r → record { answer = r; image = img } ≡ x
-    → (n ≡ set_number x.answer) × (img ≡ x.image)
-delay-set e due = left (λ (y : Setting). set_number y.answer) (λ (y : Setting). y.image) e due
+set_is : {n : ℕ} (r : SetAnswer) → MatchResult r (λ _. n ≡ 0) (λ e. n ≡ set_error_number e) → n ≡ set_number r
+set_is (Ok _) m = m
+set_is (Err e) m = m
+
+pub edited : {n : ℕ} {r : Result (Unit {0}) EditError} {img : List ℕ} {x : Edited} → MatchResult r (λ _. n ≡ 0) (λ e. n ≡ error_number e)
+    → record { answer = r; image = img } ≡ x → (n ≡ answer_number x.answer) × (img ≡ x.image)
+edited {r = r} m due = left (λ (y : Edited). answer_number y.answer) (λ (y : Edited). y.image) (answer_is r m) due
+
+pub delay-set : {n : ℕ} {r : SetAnswer} {img : List ℕ} {x : Setting} → MatchResult r (λ _. n ≡ 0) (λ e. n ≡ set_error_number e)
+    → record { answer = r; image = img } ≡ x → (n ≡ set_number x.answer) × (img ≡ x.image)
+delay-set {r = r} m due = left (λ (y : Setting). set_number y.answer) (λ (y : Setting). y.image) (set_is r m) due

@@ -1,47 +1,36 @@
 // The calls for C and Rust (include/chronicle_map.h). Each returns the number of its answer; what it
 // tells beside that goes to an array of the caller's, which is written on every call.
+// Calls that differ in one word are two because C has two names for them.
 #![tactic(auto)]
 
-ghost use Rattle.std.specs.Prelude.{◌≡◌, ◌∷◌};
+ghost use Rattle.std.specs.Prelude.{◌≡◌, ◌∷◌, MatchResult};
 ghost use Rattle.xxh64.specs.Hash.{xxh64 as hash_xxh64};
 ghost use Rattle.edit.specs.declared.Policy.TheVariants.{OnTheSpot, Tight};
-ghost use Rattle.chronicle_map.specs.Calls.{lookup_numbers, answer_number as calls_answer_number};
-ghost use Rattle.pairs.specs.Delays.{Reply, asked_reply, set_number as delays_set_number};
+ghost use Rattle.chronicle_map.specs.Calls.{lookup_numbers};
+ghost use Rattle.pairs.specs.Delays.{Reply, asked_reply};
 ghost use Rattle.chronicle_map_c.specs.Numbers.{check_answer, lookup_answer, quick_lookup_answer, entry_answer, delay_answer, quick_delay_answer, store_answer, store_leaves, remove_answer, remove_leaves, grow_answer, grow_leaves, set_delay_answer, set_delay_leaves};
 
-use chronicle_map::{Answer, Located};
-use image::numbers::{row_numbers, stage_number};
-use image::{Listed, Outcome};
-use pairs::{Asked, SetAnswer};
+use chronicle_map::Located;
+use image::numbers::row_numbers;
+use image::{Outcome, Stage};
+use pairs::AskError;
 
-fn answer_number(answer: Answer) -> u32
-    ensures { result ≡ calls_answer_number answer }
+// An edit's number: 0 where it is done, and else the error's.
+fn edit_number<E: Into<u32>>(answer: Result<(), E>) -> u32
+    ensures { MatchResult answer (λ _. result ≡ 0) (λ e. E.converts e result) }
 {
     match answer {
-        Answer::Done => 0,
-        Answer::Absent => 1,
-        Answer::Full => 10,
-        Answer::NoBulk => 13,
-        Answer::Refused(stage) => stage_number(stage),
-    }
-}
-
-fn set_number(answer: SetAnswer) -> u32
-    ensures { result ≡ delays_set_number answer }
-{
-    match answer {
-        SetAnswer::Stored(stored) => answer_number(stored),
-        SetAnswer::BadPair => 11,
-        SetAnswer::BadDelay => 12,
+        Ok(()) => 0,
+        Err(e) => e.into(),
     }
 }
 
 // A lookup's number; its other numbers go to the array.
-fn tell_place(located: Located, place: &mut [u64; 4]) -> u32
+fn tell_place(located: Result<Located, Stage>, place: &mut [u64; 4]) -> u32
     ensures { result ∷ place.new ≡ lookup_numbers located }
 {
     match located {
-        Located::Found(p) => {
+        Ok(Located::Found(p)) => {
             *place = [
                 p.offset as u64,
                 p.length as u64,
@@ -50,41 +39,33 @@ fn tell_place(located: Located, place: &mut [u64; 4]) -> u32
             ];
             0
         }
-        Located::Absent(e) => {
+        Ok(Located::Absent(e)) => {
             *place = [0, 0, e.tier as u64, e.slot as u64];
             1
         }
-        Located::Refused(stage) => {
+        Err(stage) => {
             *place = [0; 4];
-            stage_number(stage)
+            u32::from(stage)
         }
     }
 }
 
 // An ask's number; its delay goes to the caller's, 0 where there is none.
-fn tell_delay(asked: Asked, delay: &mut i32) -> u32
+fn tell_delay(asked: Result<Option<i32>, AskError>, delay: &mut i32) -> u32
     ensures { record { number = result; delay = delay.new } ≡ asked_reply asked }
 {
     match asked {
-        Asked::Found(d) => {
+        Ok(Some(d)) => {
             *delay = d;
             0
         }
-        Asked::Absent => {
+        Ok(None) => {
             *delay = 0;
             1
         }
-        Asked::BadPair => {
+        Err(e) => {
             *delay = 0;
-            11
-        }
-        Asked::BadDelay => {
-            *delay = 0;
-            12
-        }
-        Asked::Refused(stage) => {
-            *delay = 0;
-            stage_number(stage)
+            u32::from(e)
         }
     }
 }
@@ -108,7 +89,7 @@ pub extern "C" fn chronicle_map_check(block: &[u8], img: &[u8], counts: &mut [u6
         }
         Outcome::Refused(stage) => {
             *counts = [0; 4];
-            stage_number(stage)
+            u32::from(stage)
         }
     }
 }
@@ -146,7 +127,7 @@ pub extern "C" fn chronicle_map_store(block: &[u8], img: &mut [u8], key: &[u8], 
     ensures number { result ≡ store_answer OnTheSpot block.now img.old key.now value.now }
     ensures image { img.new ≡ store_leaves OnTheSpot block.now img.old key.now value.now }
 {
-    answer_number(chronicle_map::store(block, img, key, value))
+    edit_number(chronicle_map::store(block, img, key, value))
 }
 
 // The tight store: the new entry always goes to the lowest run that takes it once the old one is out.
@@ -160,7 +141,7 @@ pub extern "C" fn chronicle_map_store_tight(
     ensures number { result ≡ store_answer Tight block.now img.old key.now value.now }
     ensures image { img.new ≡ store_leaves Tight block.now img.old key.now value.now }
 {
-    answer_number(chronicle_map::store_tight(block, img, key, value))
+    edit_number(chronicle_map::store_tight(block, img, key, value))
 }
 
 // Removes the entry of a key.
@@ -169,7 +150,7 @@ pub extern "C" fn chronicle_map_remove(block: &[u8], img: &mut [u8], key: &[u8])
     ensures number { result ≡ remove_answer block.now img.old key.now }
     ensures image { img.new ≡ remove_leaves block.now img.old key.now }
 {
-    answer_number(chronicle_map::remove(block, img, key))
+    edit_number(chronicle_map::remove(block, img, key))
 }
 
 // Adds one bulk after the last; its tiers become the first free ones.
@@ -178,7 +159,7 @@ pub extern "C" fn chronicle_map_grow(block: &[u8], img: &mut [u8]) -> u32
     ensures number { result ≡ grow_answer block.now img.old }
     ensures image { img.new ≡ grow_leaves block.now img.old }
 {
-    answer_number(chronicle_map::grow(block, img))
+    edit_number(chronicle_map::grow(block, img))
 }
 
 // The n-th live entry, n from 0. The array: the seven numbers of a lister line.
@@ -187,17 +168,17 @@ pub extern "C" fn chronicle_map_entry(block: &[u8], img: &[u8], n: u64, row: &mu
     ensures { result ∷ row.new ≡ entry_answer block.now img.now n }
 {
     match chronicle_map::entry(block, img, n as usize) {
-        Listed::Row(e) => {
+        Ok(Some(e)) => {
             *row = row_numbers(e);
             0
         }
-        Listed::Past => {
+        Ok(None) => {
             *row = [0; 7];
             1
         }
-        Listed::Refused(stage) => {
+        Err(stage) => {
             *row = [0; 7];
-            stage_number(stage)
+            u32::from(stage)
         }
     }
 }
@@ -242,7 +223,7 @@ pub extern "C" fn chronicle_map_set_delay(
     ensures number { result ≡ set_delay_answer block.now img.old a b delay }
     ensures image { img.new ≡ set_delay_leaves block.now img.old a b delay }
 {
-    set_number(pairs::set_delay(block, img, a, b, delay))
+    edit_number(pairs::set_delay(block, img, a, b, delay))
 }
 
 // XXH64 with seed 0.

@@ -13,7 +13,7 @@ use Rattle.lists.specs.Lists.{span, those, how_many}
 use Rattle.lists.proofs.Lists.{span_more, how_many-append, flat_map_last}
 use Rattle.layout.specs.declared.Shape.{Shape}
 use Rattle.chains.specs.Walk.{tally, MetAtMost}
-use Rattle.chains.proofs.Tally.{tally-append, length-tally, get_or-tally}
+use Rattle.chains.proofs.Tally.{tally-append, get_or-tally}
 use Rattle.entries.specs.declared.Live.{Live}
 use Rattle.entries.specs.Stored.{chunks_for}
 use Rattle.entries.specs.Live.{slot_at, chunk_of, entry_at, live_at}
@@ -32,9 +32,6 @@ unfolding tally span
 counting-starts before c n = record { low = omega arith; counted = refl }
 
 module _ {before : List ℕ} {c n : ℕ} {now : List ℕ} {i : ℕ} (w : Counting before c n now i) where
-  pub counting-long : length now ≡ length before
-  counting-long = ap length w.counted ∙ length-tally before (span c i)
-
   -- the next chunk was not counted yet
   pub counting-small : MetAtMost before 4096 → c + i < length before → get_or now (c + i) 0 ≤ 4096
   counting-small b h =
@@ -55,9 +52,6 @@ module _ {before : List ℕ} {c n : ℕ} {now : List ℕ} {i : ℕ} (w : Countin
             ap (λ (r : List ℕ). set r (c + i) (get_or r (c + i) 0 + 1)) w.counted ∙ sym (tally-append before (span c i) ((c + i) ∷ [])) ∙
             sym (ap (tally before) (ap (span c) (add-one i) ∙ span_more c i));
       }
-
-  pub counting-ends : n ≤ i → now ≡ tally before (span c n)
-  counting-ends h = let e : i ≡ n = omega (arith, w.low) in rw e at w.counted
 
 -- ---- the chunks of several entries: as often as entries cover it is a chunk among them
 

@@ -4,9 +4,9 @@ use mathlib.Core.List.{List, [], ◌∷◌, ◌++◌}
 use mathlib.Core.Path.{◌≡◌}
 use mathlib.Core.Logic.{◌≢◌}
 use lib.ListN.{length}
-use Rattle.lists.specs.Quantify.{Every, every-none}
+use Rattle.lists.specs.Quantify.{Every}
 use Rattle.lists.proofs.Members.{every_more}
-use Rattle.links.proofs.Along.{Along, along-starts, along-ends, along_in, along-turns, along-goes, along-less}
+use Rattle.links.proofs.Along.{Along, along-ends, along_in, along-turns, along-goes, along-less}
 use Rattle.layout.specs.declared.Shape.{Shape}
 use Rattle.layout.specs.Tiers.{tiers, IsTier}
 use Rattle.chains.specs.Chains.{next_of, follow, free_head, free_chain, FreeChainFits}
@@ -19,10 +19,6 @@ pub record Freeing (z : Shape) (img : List ℕ) (t : ℕ) : Type 0 where
   pub held : Every done (FreeTierFits z img)
 
 module _ (z : Shape) (img : List ℕ) (fits : FreeChainFits z img) where
-  pub free-starts : {t : ℕ} → t ≡ free_head z img → Freeing z img t
-  free-starts e =
-      rw e (record { done = []; along = along-starts (next_of z img) (tiers z) (free_head z img); held = every-none (FreeTierFits z img) })
-
   module _ {t : ℕ} (w : Freeing z img t) where
     pub free-ends : t ≡ 0 → Every (free_chain z img) (FreeTierFits z img)
     unfolding free_chain

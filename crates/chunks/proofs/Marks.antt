@@ -1,25 +1,25 @@
 -- What the loops over a tier's marks find.
 use Prim.Native.Nat.{ℕ, ◌+◌, ◌≤◌, ◌<◌}
 use mathlib.Core.List.{List}
-use mathlib.Core.Path.{◌≡◌, refl, ◌∙◌, subst}
+use mathlib.Core.Path.{◌≡◌, refl, ◌∙◌}
 use mathlib.Core.Logic.{⊎_elim, ◌≢◌}
 use mathlib.Core.Bool.{false}
 use native.Mathlib.Omega.{arith}
 use native.Mathlib.Nat.{zero-add}
 use lib.Dec.{eqb}
 use borrow.Author.Tests.{eq-eqb, ne_eqb}
-use Rattle.lists.specs.Cases.{same_or}
+use Rattle.std.specs.Prelude.{Option, Some, None}
+use Rattle.std.specs.Option.{MatchOption, unwrap_or}
+use Rattle.lists.specs.Cases.{lt-or, same_or}
 use Rattle.lists.specs.Lists.{span, below, first, those}
 use Rattle.lists.specs.Quantify.{Below}
 use Rattle.lists.proofs.Lists.{how_many-le, length-span}
 use Rattle.layout.specs.declared.Shape.{Shape}
 use Rattle.layout.specs.Places.{mark}
 use Rattle.layout.proofs.Marks.{mark-lt}
-use Rattle.chunks.specs.declared.Compared.{Compared}
-use Rattle.chunks.specs.declared.Compared.TheVariants.{Same, Differ}
 use Rattle.chunks.specs.Chunks.{clear, lowest_clear, marked_in}
 pub use Rattle.chunks.specs.Counting.{marked_below}
-use Rattle.chunks.specs.Counting.{MarksBelow}
+use Rattle.chunks.specs.Counting.{FirstOther}
 use Rattle.lists.proofs.Rows.{first-span-at, first-span-none, before-first, how_many-more, how_many-less}
 use Rattle.lists.proofs.SameLists.{first-le}
 
@@ -47,17 +47,6 @@ module _ (z : Shape) (img : List ℕ) (t : ℕ) where
   unfolding marked_below
   marked-le n = omega (arith, how_many-le (λ i. eqb (mark z img t i) 1) (below n), length-span 0 n)
 
-  -- ---- what comparing marks with counts gave, with the equation that it is taken by
-
-  module _ (l : List ℕ) (n : ℕ) where
-    pub same_taken : (r : Compared) → MarksBelow z img t l n r → {m : ℕ} → r ≡ Same m → MarksBelow z img t l n (Same m)
-    same_taken r w e = subst (MarksBelow z img t l n) e w
-
-    pub differ-taken : (n' : ℕ) (r : Compared) → MarksBelow z img t l n r → r ≡ Differ → n ≤ n' → MarksBelow z img t l n' Differ
-    differ-taken n' r w e h f =
-        let g : MarksBelow z img t l n Differ = subst (MarksBelow z img t l n) e w in
-        g (λ i k. f i (omega arith))
-
   -- ---- the lowest clear chunk
 
   pub lowest-at : (n : ℕ) → n < z.settings.chunks → Below n (λ i. mark z img t i ≢ 0) → mark z img t n ≡ 0 → n ≡ lowest_clear z img t
@@ -74,6 +63,36 @@ module _ (z : Shape) (img : List ℕ) (t : ℕ) where
       let g : first (below z.settings.chunks) (clear z img t) ≡ mathlib.Core.Option.none =
       first-span-none (clear z img t) 0 z.settings.chunks (λ i l. rw zero-add (ne_eqb (mark z img t i) 0 (f i l))) in
       rw g
+
+  -- what the search for another mark gave, by the same chunks
+  module _ {b from : ℕ} (w : (from ≤ z.settings.chunks) × Below from (λ i. mark z img t i ≡ b)) where
+    pub other-found : (r : Option ℕ)
+        → MatchOption r ((k : ℕ) → from ≤ k → k < z.settings.chunks → mark z img t k ≡ b)
+        (λ i. (from ≤ i) × (i < z.settings.chunks) × (mark z img t i ≢ b) × ((k : ℕ) → from ≤ k → k < i → mark z img t k ≡ b))
+        → FirstOther z img t b (unwrap_or r z.settings.chunks)
+    other-found None f =
+        record {
+          within = omega arith;
+          before = λ i h. ⊎_elim (w.1 i) (λ l. f i l h) (lt-or i from);
+          ends = λ h. absurd (omega arith);
+        }
+    other-found (Some n) f =
+        record {
+          within = omega (arith, f.1);
+          before = λ i h. ⊎_elim (w.1 i) (λ l. f.3 i l h) (lt-or i from);
+          ends = λ _. f.2;
+        }
+
+  pub lowest-other : {n : ℕ} → FirstOther z img t 1 n → n ≡ lowest_clear z img t
+  lowest-other {n} f =
+      ⊎_elim
+      (λ (h : n < z.settings.chunks).
+      lowest-at n h (λ i l e. omega (arith, f.before i l, e))
+      (⊎_elim (λ e. e) (λ (ne : mark z img t n ≢ 0). absurd (f.ends h (omega (arith, ne, mark-lt z img t n)))) (same_or (mark z img t n) 0)))
+      (λ (h : z.settings.chunks ≤ n).
+      let e : n ≡ z.settings.chunks = omega (arith, f.within) in
+      rw e (lowest-none (λ i l q. omega (arith, f.before i (omega arith), q))))
+      (lt-or n z.settings.chunks)
 
   pub lowest-few : lowest_clear z img t ≤ z.settings.chunks
   unfolding lowest_clear

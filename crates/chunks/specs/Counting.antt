@@ -1,5 +1,5 @@
 -- The chunks of entries in a row, and what comparing them with the bits of a tier says. The definitions serve contracts alone.
-use Rattle.std.specs.Prelude.{ℕ, ◌+◌, ◌*◌, ◌<◌, ◌≡◌, eqb, get_or}
+use Rattle.std.specs.Prelude.{ℕ, ◌+◌, ◌*◌, ◌<◌, ◌≤◌, ◌≡◌, ◌≢◌, Option, Some, None, eqb, get_or}
 use mathlib.Core.List.{List, flat_map}
 use Rattle.lists.specs.Lists.{span, below, how_many}
 use Rattle.lists.specs.Quantify.{Below}
@@ -7,8 +7,6 @@ use Rattle.words.specs.Bits.{bit_of}
 use Rattle.layout.specs.declared.Shape.{Shape}
 use Rattle.layout.specs.Places.{mark}
 use Rattle.entries.specs.declared.Live.{Live}
-use Rattle.chunks.specs.declared.Compared.{Compared}
-use Rattle.chunks.specs.declared.Compared.TheVariants.{Same, Differ}
 
 -- the chunks of an entry; those of several, one after the other
 abbrev pub chunks_of_entry : Live → List ℕ
@@ -36,11 +34,17 @@ module _ (z : Shape) (img : List ℕ) where
   abbrev pub IsByte : ℕ → ℕ → ℕ → Type 0
   IsByte t i v = Below 8 (λ k. mark z img t (i + k) ≡ bit_of v k)
 
+  -- n is the lowest chunk whose mark is not b, or the number of chunks if none is
+  pub record FirstOther (t b n : ℕ) : Type 0 where
+    pub within : n ≤ z.settings.chunks
+    pub before : Below n (λ i. mark z img t i ≡ b)
+    pub ends : n < z.settings.chunks → mark z img t n ≢ b
+
   -- how many of the first n chunks are marked
   unfoldable pub marked_below : ℕ → ℕ → ℕ
   marked_below t n = how_many (below n) (λ i. eqb (mark z img t i) 1)
 
   -- the bits of the first n chunks are their counts, and how many are 1; or one bit is not its chunk's count
-  abbrev pub MarksBelow : ℕ → List ℕ → ℕ → Compared → Type 0
-  MarksBelow t covered n (Same m) = Below n (λ i. get_or covered i 0 ≡ mark z img t i) × (m ≡ marked_below t n)
-  MarksBelow t covered n Differ = Below n (λ i. get_or covered i 0 ≡ mark z img t i) → ⊥
+  abbrev pub MarksBelow : ℕ → List ℕ → ℕ → Option ℕ → Type 0
+  MarksBelow t covered n (Some m) = Below n (λ i. get_or covered i 0 ≡ mark z img t i) × (m ≡ marked_below t n)
+  MarksBelow t covered n None = Below n (λ i. get_or covered i 0 ≡ mark z img t i) → ⊥

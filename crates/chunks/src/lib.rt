@@ -12,27 +12,18 @@ ghost use Rattle.chains.specs.Chains.{free_chain};
 ghost use Rattle.chains.specs.Walk.{tally};
 ghost use Rattle.entries.specs.Live.{slot_at};
 ghost use Rattle.chunks.specs.Chunks.{lowest_clear as chunks_lowest_clear, LowMarkFits, FreeTierFits};
-ghost use Rattle.chunks.specs.Counting.{IsByte, IsFour, spread_of, ones_of, MarksBelow};
+ghost use Rattle.chunks.specs.Counting.{IsByte, IsFour, spread_of, MarksBelow, FirstOther};
 ghost use Rattle.chunks.specs.Asking.{CanCount, WholeByte, CanCompare, FramedFree};
 
-use layout::Shape;
-
-// Whether the bits of a tier are the counts of its chunks: how many are 1, or that one is not.
-#[derive(Clone, Copy)]
-pub enum Compared {
-    Same(usize),
-    Differ,
-}
+use layout::{Global, Header, Shape};
 
 // Counts n chunks from c on once more.
 pub fn count(covered: &mut [u16], c: usize, n: usize)
     requires { CanCount covered.old c n }
     ensures { covered.new ≡ tally covered.old (span c n) }
 {
-    let mut i = 0;
-    while i < n {
+    for i in 0..n {
         covered[c + i] += 1;
-        i += 1;
     }
 }
 
@@ -44,31 +35,25 @@ fn byte_of(z: Shape, img: &[u8], t: usize, at: usize, i: usize) -> u8
     img[at + i / 8]
 }
 
-fn wide(x: u16) -> u64
-    ensures { (result ≡ x) × (result < 65536) }
-{
-    x as u64
-}
-
 // The counts of 4 chunks as one number, written out so that it compiles to one load.
 fn four(covered: &[u16], i: usize) -> u64
     requires { i + 4 ≤ length covered.now }
     ensures { IsFour covered.now i result }
 {
-    wide(covered[i])
-        + wide(covered[i + 1]) * 65536
-        + wide(covered[i + 2]) * 4294967296
-        + wide(covered[i + 3]) * 281474976710656
+    u64::from(covered[i])
+        + u64::from(covered[i + 1]) * 65536
+        + u64::from(covered[i + 2]) * 4294967296
+        + u64::from(covered[i + 3]) * 281474976710656
 }
 
-// The 4 lowest bits of a number, spread out in the same way.
+// The 4 lowest bits of a number, spread out in the same way: the library has no method that spreads bits.
 fn spread(v: u8) -> u64
     ensures { result ≡ spread_of v }
 {
     if v == 0 {
         return 0;
     }
-    let w = v as u64;
+    let w = u64::from(v);
     w % 2 + w / 2 % 2 * 65536 + w / 4 % 2 * 4294967296 + w / 8 % 2 * 281474976710656
 }
 
@@ -86,57 +71,37 @@ fn byte_agrees(covered: &[u16], i: usize, v: u8) -> bool
     true
 }
 
-// How many bits of a byte are 1.
-fn ones(v: u8) -> usize
-    ensures { result ≡ ones_of v }
-{
-    if v == 0 {
-        return 0;
-    }
-    let w = v as usize;
-    w % 2 + w / 2 % 2 + w / 4 % 2 + w / 8 % 2 + w / 16 % 2 + w / 32 % 2 + w / 64 % 2 + w / 128 % 2
-}
-
-// Whether the bit of each chunk is how many entries cover it, and how many are 1: the chunks of whole bytes.
-fn bytes_agree(z: Shape, img: &[u8], t: usize, covered: &[u16]) -> Compared
+// How many bits of a tier are 1, where the bit of each chunk is how many entries cover it; nothing where one is not. The chunks of whole bytes.
+fn bytes_agree(z: Shape, img: &[u8], t: usize, covered: &[u16]) -> Option<usize>
     requires { CanCompare z img.now t covered.now }
     ensures { MarksBelow z img.now t covered.now (z.settings.chunks / 8 * 8) result }
 {
     let at = layout::free_list_at(z, t);
-    let whole = z.settings.chunks / 8 * 8;
     let mut marked = 0;
-    let mut i = 0;
-    while i < whole {
-        let v = byte_of(z, img, t, at, i);
-        if !byte_agrees(covered, i, v) {
-            return Compared::Differ;
+    for k in 0..z.settings.chunks / 8 {
+        let v = byte_of(z, img, t, at, k * 8);
+        if !byte_agrees(covered, k * 8, v) {
+            return None;
         }
-        marked += ones(v);
-        i += 8;
+        marked += v.count_ones() as usize;
     }
-    Compared::Same(marked)
+    Some(marked)
 }
 
 // The same for all chunks of a tier.
-pub fn marks_agree(z: Shape, img: &[u8], t: usize, covered: &[u16]) -> Compared
+pub fn marks_agree(z: Shape, img: &[u8], t: usize, covered: &[u16]) -> Option<usize>
     requires { CanCompare z img.now t covered.now }
     ensures { MarksBelow z img.now t covered.now z.settings.chunks result }
 {
-    let Compared::Same(first) = bytes_agree(z, img, t, covered) else {
-        return Compared::Differ;
-    };
-    let last = z.settings.chunks - 1;
-    let mut marked = first;
-    let mut i = z.settings.chunks / 8 * 8;
-    while i <= last {
+    let mut marked = bytes_agree(z, img, t, covered)?;
+    for i in z.settings.chunks / 8 * 8..z.settings.chunks {
         let bit = layout::read::mark(z, img, t, i);
-        if covered[i] != bit as u16 {
-            return Compared::Differ;
+        if covered[i] != u16::from(bit) {
+            return None;
         }
-        marked += bit as usize;
-        i += 1;
+        marked += usize::from(bit);
     }
-    Compared::Same(marked)
+    Some(marked)
 }
 
 // Chunks of whole bytes, from the first on, whose marks are all b: as many as there are before a byte with another bit.
@@ -145,15 +110,22 @@ fn whole_bytes(z: Shape, img: &[u8], t: usize, b: u8) -> usize
     ensures { (result ≤ z.settings.chunks) × Below result (λ i. mark z img.now t i ≡ b) }
 {
     let at = layout::free_list_at(z, t);
-    let whole = z.settings.chunks / 8 * 8;
-    let mut i = 0;
-    while i < whole {
-        if byte_of(z, img, t, at, i) != b * 255 {
-            return i;
+    for k in 0..z.settings.chunks / 8 {
+        if byte_of(z, img, t, at, k * 8) != b * 255 {
+            return k * 8;
         }
-        i += 8;
     }
-    i
+    z.settings.chunks / 8 * 8
+}
+
+// The lowest chunk of a tier whose mark is not b, or the number of chunks if none is.
+fn lowest_other(z: Shape, img: &[u8], t: usize, b: u8) -> usize
+    requires { FramedTier z img.now t × (b < 2) }
+    ensures { FirstOther z img.now t b result }
+{
+    (whole_bytes(z, img, t, b)..z.settings.chunks)
+        .find(|&i| layout::read::mark(z, img, t, i) != b)
+        .unwrap_or(z.settings.chunks)
 }
 
 // The lowest clear chunk of a tier, or the number of chunks if none is.
@@ -161,14 +133,7 @@ pub fn lowest_clear(z: Shape, img: &[u8], t: usize) -> usize
     requires { FramedTier z img.now t }
     ensures { result ≡ chunks_lowest_clear z img.now t }
 {
-    let mut i = whole_bytes(z, img, t, 1);
-    while i < z.settings.chunks {
-        if layout::read::mark(z, img, t, i) == 0 {
-            return i;
-        }
-        i += 1;
-    }
-    i
+    lowest_other(z, img, t, 1)
 }
 
 // Whether the lowest free chunk field of a tier fits: it may be lower than the lowest clear chunk, but not where no chunk is clear.
@@ -177,7 +142,7 @@ pub fn low_mark_fits(z: Shape, img: &[u8], t: usize) -> bool
     ensures { Decides result (LowMarkFits z img.now t) }
 {
     let low = lowest_clear(z, img, t);
-    let field = layout::read::low_of(z, img, t);
+    let field = layout::read::shared(z, img, t, Header::LowestFree);
     if (low as u64) < field {
         return false;
     }
@@ -192,14 +157,7 @@ fn all_clear(z: Shape, img: &[u8], t: usize) -> bool
     requires { FramedTier z img.now t }
     ensures { Decides result (Below z.settings.chunks (λ i. mark z img.now t i ≡ 0)) }
 {
-    let mut i = whole_bytes(z, img, t, 0);
-    while i < z.settings.chunks {
-        if layout::read::mark(z, img, t, i) != 0 {
-            return false;
-        }
-        i += 1;
-    }
-    true
+    lowest_other(z, img, t, 0) == z.settings.chunks
 }
 
 // Whether all slots of a tier are empty.
@@ -207,14 +165,7 @@ fn slots_empty(z: Shape, img: &[u8], t: usize) -> bool
     requires { FramedTier z img.now t }
     ensures { Decides result (Below z.settings.slots (λ j. slot_at z img.now t j ≡ 0)) }
 {
-    let mut j = 0;
-    while j < z.settings.slots {
-        if layout::read::slot(z, img, t, j) != 0 {
-            return false;
-        }
-        j += 1;
-    }
-    true
+    (0..z.settings.slots).all(|j| layout::read::slot(z, img, t, j) == 0)
 }
 
 // Whether the tiers of the free chain hold nothing.
@@ -222,7 +173,7 @@ pub fn free_fits(z: Shape, img: &[u8]) -> bool
     requires { FramedFree z img.now }
     ensures { Decides result (Every (free_chain z img.now) (FreeTierFits z img.now)) }
 {
-    let mut t = layout::read::first_free(z, img) as usize;
+    let mut t = layout::read::global(z, img, Global::FirstFree) as usize;
     while t != 0 {
         if !slots_empty(z, img, t) {
             return false;
@@ -230,7 +181,7 @@ pub fn free_fits(z: Shape, img: &[u8]) -> bool
         if !all_clear(z, img, t) {
             return false;
         }
-        t = layout::read::next_of(z, img, t) as usize;
+        t = layout::read::shared(z, img, t, Header::NextTier) as usize;
     }
     true
 }

@@ -1,4 +1,5 @@
 -- What the tiers hold, from the answers of the chains and of the free tiers.
+use Rattle.std.specs.Prelude.{Result, Ok, Err}
 use Prim.Native.Nat.{ℕ}
 use mathlib.Core.List.{List}
 use mathlib.Core.Path.{◌≡◌, ap₂, sym, ◌∙◌}
@@ -10,8 +11,8 @@ use Rattle.chains.specs.Chains.{chained}
 use Rattle.entries.specs.Live.{live}
 use Rattle.search.specs.Rules.{EntriesFit, entries_fit?}
 use Rattle.chunks.specs.Chunks.{ChunksFit, chunks_fit?, marked_chunks}
-use Rattle.contents.specs.declared.Contents.{Contents}
-use Rattle.contents.specs.declared.Contents.TheVariants.{Fit, BadChunks, BadEntries}
+use Rattle.contents.specs.declared.ContentsError.{ContentsError}
+use Rattle.contents.specs.declared.ContentsError.TheVariants.{Chunks, Entries}
 use Rattle.contents.specs.Contents.{contents_of}
 use Rattle.contents.specs.Counting.{Says, joined, AllSay, FreeSays}
 use Rattle.contents.proofs.Saying.{both_say, says_as}
@@ -19,16 +20,16 @@ use Rattle.contents.proofs.Saying.{both_say, says_as}
 module _ (z : Shape) (img : List ℕ) where
   -- ---- by what holds
 
-  told : (r : Contents) → Says (EntriesFit z img) (ChunksFit z img) (length (live z img)) (marked_chunks z img) r → r ≡ contents_of z img
+  told : (r : Result (ℕ × ℕ) ContentsError) → Says (EntriesFit z img) (ChunksFit z img) (length (live z img)) (marked_chunks z img) r → r ≡ contents_of z img
   unfolding contents_of
-  told BadEntries p = sym (choose_no (entries_fit? z img) _ _ p.so)
-  told BadChunks p = sym (choose_yes (entries_fit? z img) _ _ p.so.0 ∙ choose_no (chunks_fit? z img) _ _ p.so.1)
-  told (Fit a b) p =
-      ap₂ Fit p.so.1.0 p.so.1.1 ∙ sym (choose_yes (entries_fit? z img) _ _ p.so.0.0 ∙ choose_yes (chunks_fit? z img) _ _ p.so.0.1)
+  told (Err Entries) p = sym (choose_no (entries_fit? z img) _ _ p.so)
+  told (Err Chunks) p = sym (choose_yes (entries_fit? z img) _ _ p.so.0 ∙ choose_no (chunks_fit? z img) _ _ p.so.1)
+  told (Ok (a, b)) p =
+      ap₂ (λ (x y : ℕ). Ok (x, y)) p.so.1.0 p.so.1.1 ∙ sym (choose_yes (entries_fit? z img) _ _ p.so.0.0 ∙ choose_yes (chunks_fit? z img) _ _ p.so.0.1)
 
   -- ---- as the code has it
 
-  pub contents-told : {a b r : Contents} → AllSay z img z.settings.segments a → FreeSays z img b → r ≡ joined a b → r ≡ contents_of z img
+  pub contents-told : {a b r : Result (ℕ × ℕ) ContentsError} → AllSay z img z.settings.segments a → FreeSays z img b → r ≡ joined a b → r ≡ contents_of z img
   unfolding live marked_chunks chained
   contents-told {a} {b} {r} p q e =
       told r

@@ -1,4 +1,5 @@
 -- A chain's answer, from those of its tiers and from whether no key has two slots.
+use Rattle.std.specs.Prelude.{Result, Ok, Err}
 use Prim.Native.Nat.{ℕ, ◌+◌, ◌≤◌, ◌<◌}
 use mathlib.Core.List.Memᴰ
 use mathlib.Core.List.{List, [], ◌∷◌, Memᴰ}
@@ -23,8 +24,8 @@ use Rattle.search.specs.Reach.{Alone}
 use Rattle.search.proofs.Finding.{hits-own}
 use Rattle.once.specs.Asking.{FittingChain, ReadChain}
 use Rattle.once.proofs.Tiers.{tiers-start, tiers-end, tiers-turn}
-use Rattle.contents.specs.declared.Contents.{Contents}
-use Rattle.contents.specs.declared.Contents.TheVariants.{Fit, BadChunks, BadEntries}
+use Rattle.contents.specs.declared.ContentsError.{ContentsError}
+use Rattle.contents.specs.declared.ContentsError.TheVariants.{Chunks, Entries}
 use Rattle.contents.specs.Counting.{TiersSay, ChainSays}
 use Rattle.contents.proofs.Saying.{says_as}
 
@@ -76,7 +77,8 @@ module _ (z : Shape) (img : List ℕ) (s : ℕ) where
     pub lone-chain : next_of z img (s + 1) ≡ 0 → chain z img s ≡ (s + 1) ∷ []
     lone-chain e = sym (tiers-end z img s c.fits (tiers-turn z img s c.fits (tiers-start z img s) (omega arith) refl) e)
 
-    pub lone-says : next_of z img (s + 1) ≡ 0 → Every (full_slots z img (s + 1)) (Alone z img (s + 1)) → {sum : Contents} → TiersSay z img s sum
+    pub lone-says : next_of z img (s + 1) ≡ 0 → Every (full_slots z img (s + 1)) (Alone z img (s + 1)) → {sum : Result (ℕ × ℕ) ContentsError}
+        → TiersSay z img s sum
         → ChainSays z img s sum
     lone-says e alone {sum} p =
         says_as
@@ -88,19 +90,19 @@ module _ (z : Shape) (img : List ℕ) (s : ℕ) where
 
   -- ---- by the passes, with the equation that the answer of the tiers is taken by
 
-  module _ (sum : Contents) (p : TiersSay z img s sum) where
-    pub broken-says : sum ≡ BadEntries → ChainSays z img s BadEntries
-    broken-says e = let q : TiersSay z img s BadEntries = subst (TiersSay z img s) e p in record { so = λ f. q.so f.tiers_fit }
+  module _ (sum : Result (ℕ × ℕ) ContentsError) (p : TiersSay z img s sum) where
+    pub broken-says : sum ≡ Err Entries → ChainSays z img s (Err Entries)
+    broken-says e = let q : TiersSay z img s (Err Entries) = subst (TiersSay z img s) e p in record { so = λ f. q.so f.tiers_fit }
 
-    pub chunks-read : FittingChain z img s → sum ≡ BadChunks → ReadChain z img s
-    chunks-read c e = let q : TiersSay z img s BadChunks = subst (TiersSay z img s) e p in record { fitting = c; slots_fit = q.so.0 }
+    pub chunks-read : FittingChain z img s → sum ≡ Err Chunks → ReadChain z img s
+    chunks-read c e = let q : TiersSay z img s (Err Chunks) = subst (TiersSay z img s) e p in record { fitting = c; slots_fit = q.so.0 }
 
-    pub fit-read : FittingChain z img s → (n m : ℕ) → sum ≡ Fit n m → ReadChain z img s
-    fit-read c n m e = let q : TiersSay z img s (Fit n m) = subst (TiersSay z img s) e p in record { fitting = c; slots_fit = q.so.0.0 }
+    pub fit-read : FittingChain z img s → (n m : ℕ) → sum ≡ Ok (n, m) → ReadChain z img s
+    fit-read c n m e = let q : TiersSay z img s (Ok (n, m)) = subst (TiersSay z img s) e p in record { fitting = c; slots_fit = q.so.0.0 }
 
-    pub once-says : KeysOnce z img s → (r : Contents) → sum ≡ r → ChainSays z img s r
+    pub once-says : KeysOnce z img s → (r : Result (ℕ × ℕ) ContentsError) → sum ≡ r → ChainSays z img s r
     once-says k r e =
         says_as (λ f. record { tiers_fit = f; keys_once = k }) (λ f. f.tiers_fit) (λ x. x) (λ x. x) refl refl r (subst (TiersSay z img s) e p)
 
-  pub twice-says : (KeysOnce z img s → ⊥) → ChainSays z img s BadEntries
+  pub twice-says : (KeysOnce z img s → ⊥) → ChainSays z img s (Err Entries)
   twice-says n = record { so = λ f. n f.keys_once }

@@ -8,7 +8,7 @@ use native.Mathlib.Omega.{arith}
 use native.Mathlib.Numerals.{add-one}
 use lib.Dec.{eqb}
 use lib.ListN.{length, length-map, get_or, take, drop, get_or-eq_default}
-use lib.Seq.{take-suc, split_at, drop-cons, get_or-take, length-take-le}
+use lib.Seq.{take-suc, take_all, split_at, drop-cons, get_or-take, length-take-le}
 use borrow.Author.Tests.{eqb-true, not-false}
 use Rattle.lists.specs.Cases.{lt-or, same_or}
 use Rattle.lists.specs.Lists.{span, below, those}
@@ -22,8 +22,7 @@ use Rattle.chains.proofs.Tally.{tally-append, length-tally, get_or-tally}
 use Rattle.entries.specs.declared.Live.{Live}
 use Rattle.entries.specs.Live.{slot_at, full_slots, live_at, live_in}
 use Rattle.entries.proofs.LiveLists.{full_slots_in}
-use Rattle.search.specs.declared.rules.Slot.{Slot}
-use Rattle.search.specs.declared.rules.Slot.TheVariants.{Fits, Broken}
+use Rattle.std.specs.Prelude.{Option, Some, None}
 use Rattle.search.specs.declared.reach.Run.{Run}
 use Rattle.search.specs.Rules.{EntryFits}
 use Rattle.search.specs.Reach.{RunOn, RunAt, RunTo, Alone}
@@ -32,9 +31,14 @@ use Rattle.search.proofs.Reaching.{run-begins, run-next, run-few}
 use Rattle.chunks.specs.Chunks.{covers}
 use Rattle.chunks.specs.Counting.{chunks_of_entry, chunks_of_all}
 use Rattle.chunks.proofs.Covering.{covered-by, chunks_of_all-more}
-use Rattle.contents.specs.declared.Covered.TheVariants.{Held}
 use Rattle.contents.specs.Counting.{Lists, Covers}
 use Rattle.contents.specs.Asking.{BeforeFirst}
+
+-- the listed slots by themselves, as the code cuts them out
+pub lists-cut : {z : Shape} {img : List ℕ} {t : ℕ} {list : List ℕ} {full : ℕ} → Lists z img t list full
+    → Lists z img t (take full list) (length (take full list))
+lists-cut {list = list} {full = full} l =
+    record { are = take_all _ (take full list) (omega arith) ∙ l.are; within = omega arith }
 
 module _ (z : Shape) (img : List ℕ) (t : ℕ) {list : List ℕ} {full : ℕ} (l : Lists z img t list full) where
   open z use {settings}
@@ -157,13 +161,13 @@ module _ (z : Shape) (img : List ℕ) (s t : ℕ) (list : List ℕ) (full : ℕ)
           run_short = run-few z img t (listed z img t l i h).0 run-here
 
           -- what the slot's rules gave, with the equation that the answer is taken by
-          module _ (x : Slot) (q : SlotSays z img (SlotHolds z img s t (get_or list i 0)) t (get_or list i 0) x) where
-            pub covering-lost : x ≡ Broken → Every (full_slots z img t) (SlotHolds z img s t) → ⊥
+          module _ (x : Option (ℕ × ℕ)) (q : SlotSays z img (SlotHolds z img s t (get_or list i 0)) t (get_or list i 0) x) where
+            pub covering-lost : x ≡ None → Every (full_slots z img t) (SlotHolds z img s t) → ⊥
             covering-lost e f =
                 subst (SlotSays z img (SlotHolds z img s t (get_or list i 0)) t (get_or list i 0)) e q (f (get_or list i 0) (listed_in z img t l i h))
 
-            module _ (c n : ℕ) (e : x ≡ Fits c n) where
-              told : SlotSays z img (SlotHolds z img s t (get_or list i 0)) t (get_or list i 0) (Fits c n)
+            module _ (c n : ℕ) (e : x ≡ Some (c, n)) where
+              told : SlotSays z img (SlotHolds z img s t (get_or list i 0)) t (get_or list i 0) (Some (c, n))
               told = subst (SlotSays z img (SlotHolds z img s t (get_or list i 0)) t (get_or list i 0)) e q
 
               pub entry_in : EntryFits z img s t (get_or list i 0)
@@ -197,7 +201,7 @@ module _ (z : Shape) (img : List ℕ) (s t : ℕ) (list : List ℕ) (full : ℕ)
                     run_to = rw on.next_is (run-next z img t is.0 is.1 run-here);
                   }
 
-      pub covering-ends : full ≤ i → {apart : Bool} → (apart ≡ true → 0 < left) → Covers z img s t before now (Held apart)
+      pub covering-ends : full ≤ i → {apart : Bool} → (apart ≡ true → 0 < left) → Covers z img s t before now (Some apart)
       unfolding live_in
       covering-ends h known =
           let e : i ≡ full = omega (arith, w.low) in

@@ -1,4 +1,5 @@
 -- The answers for a chain's tiers taken together, and for the chains one after the other.
+use Rattle.std.specs.Prelude.{Result, Ok}
 use Prim.Native.Nat.{ℕ, suc, ◌+◌, ◌*◌, ◌≤◌, ◌<◌}
 use mathlib.Core.List.{List, [], ◌∷◌, ◌++◌, flat_map, append-nil, Memᴰ}
 use mathlib.Core.Path.{◌≡◌, refl, ap, sym, ◌∙◌, subst}
@@ -23,8 +24,7 @@ use Rattle.entries.proofs.LiveLists.{length_live_in}
 use Rattle.search.specs.Rules.{TierSlotsFit}
 use Rattle.chunks.specs.Chunks.{marked_in, TierChunksFit}
 use Rattle.chunks.proofs.Marks.{marked_all, marked-le}
-use Rattle.contents.specs.declared.Contents.{Contents}
-use Rattle.contents.specs.declared.Contents.TheVariants.{Fit}
+use Rattle.contents.specs.declared.ContentsError.{ContentsError}
 use Rattle.contents.specs.declared.Tier.{Tier}
 use Rattle.contents.specs.Asking.{FirstKnown}
 use Rattle.contents.specs.Counting.{Says, joined, AtMost, TierSays, TierTold, TiersSay, ChainHolds, ChainSays, AllSay}
@@ -85,13 +85,13 @@ module _ (z : Shape) (img : List ℕ) where
   -- ---- one chain
 
   -- the tiers of done were met, sum is their answers taken together, and apart is what the first one said of its keys
-  pub record Summing (s : ℕ) (sum : Contents) (apart : Bool) (t : ℕ) : Type 0 where
+  pub record Summing (s : ℕ) (sum : Result (ℕ × ℕ) ContentsError) (apart : Bool) (t : ℕ) : Type 0 where
     pub done : List ℕ
     pub alone : FirstKnown z img s apart
     pub along : Along (next_of z img) (tiers z) (suc s) done t
     pub says : Says (Every done (TierSlotsFit z img s)) (Every done (TierChunksFit z img s)) (live_over s done) (marked_over done) sum
 
-  pub summing_starts : (s : ℕ) → Summing s (Fit 0 0) false (s + 1)
+  pub summing_starts : (s : ℕ) → Summing s (Ok (0, 0)) false (s + 1)
   summing_starts s =
       rw (add-one s)
       (record {
@@ -101,10 +101,10 @@ module _ (z : Shape) (img : List ℕ) where
         says = record { so = ((every-none (TierSlotsFit z img s), every-none (TierChunksFit z img s)), (sym (none-live s), sym none-marked)) };
       })
 
-  pub tier-small : (s t : ℕ) (r : Contents) → slots ≤ 4096 → chunks ≤ 4096 → TierSays z img s t r → AtMost 4294967296 r
+  pub tier-small : (s t : ℕ) (r : Result (ℕ × ℕ) ContentsError) → slots ≤ 4096 → chunks ≤ 4096 → TierSays z img s t r → AtMost 4294967296 r
   tier-small s t r a b q = says-small 4294967296 (omega (arith, full-few a b t)) (omega (arith, marked-few a b t)) r q
 
-  module _ {s : ℕ} {sum : Contents} {apart : Bool} {t : ℕ} (w : Summing s sum apart t) where
+  module _ {s : ℕ} {sum : Result (ℕ × ℕ) ContentsError} {apart : Bool} {t : ℕ} (w : Summing s sum apart t) where
     -- the next tier
     module _ (fits : ChainFits z img s) (ne : t ≢ 0) where
       low : length w.done < tiers z
@@ -117,7 +117,7 @@ module _ (z : Shape) (img : List ℕ) where
       pub summing_less : {u : ℕ} → u ≡ next_of z img t → length (follow z img (tiers z) u) < length (follow z img (tiers z) t)
       summing_less e = along-less w.along fits.ends ne e
 
-    pub summing_turns : ChainFits z img s → t ≢ 0 → {tier : Tier} → TierTold z img s t tier → {next : Contents}
+    pub summing_turns : ChainFits z img s → t ≢ 0 → {tier : Tier} → TierTold z img s t tier → {next : Result (ℕ × ℕ) ContentsError}
         → next ≡ joined sum tier.contents → {apart' : Bool} → FirstKnown z img s apart' → {u : ℕ} → u ≡ next_of z img t
         → Summing s next apart' u
     summing_turns fits ne {tier} q {next} e alone eu =
@@ -172,15 +172,15 @@ module _ (z : Shape) (img : List ℕ) where
     unfolding chain marked_over
     marks-few s = omega (arith, marked-bound fewSlots fewChunks (chain z img s), length-follow (next_of z img) (tiers z) (suc s))
 
-    pub chain-small : (s : ℕ) (r : Contents) → ChainSays z img s r → AtMost 4294967296 r
+    pub chain-small : (s : ℕ) (r : Result (ℕ × ℕ) ContentsError) → ChainSays z img s r → AtMost 4294967296 r
     chain-small s r q = says-small 4294967296 (omega (arith, live-few s)) (omega (arith, marks-few s)) r q
 
-  pub record AllSumming (sum : Contents) (s : ℕ) : Type 0 where
+  pub record AllSumming (sum : Result (ℕ × ℕ) ContentsError) (s : ℕ) : Type 0 where
     pub low : s ≤ segments
     pub says : AllSay z img s sum
     pub small : (live_first s ≤ s * 4194304) × (marked_first s ≤ s * 4194304)
 
-  pub all-starts : AllSumming (Fit 0 0) 0
+  pub all-starts : AllSumming (Ok (0, 0)) 0
   unfolding flat_map total span
   all-starts =
       record { low = omega arith; says = record { so = ((λ s h. absurd (omega arith), λ s h. absurd (omega arith)), (refl, refl)) }; small = omega arith }
@@ -189,11 +189,11 @@ module _ (z : Shape) (img : List ℕ) where
   first_below : (P : ℕ → Type 0) (s : ℕ) → Below (s + 1) P → Below s P × P s
   first_below P s f = (λ i h. f i (omega arith), f s (omega arith))
 
-  module _ {sum : Contents} {s : ℕ} (w : AllSumming sum s) where
+  module _ {sum : Result (ℕ × ℕ) ContentsError} {s : ℕ} (w : AllSumming sum s) where
     pub all_small : segments ≤ 256 → AtMost 4294967296 sum
     all_small h = says-small 4294967296 (omega (arith, w.low, w.small)) (omega (arith, w.low, w.small)) sum w.says
 
-    pub all-turns : slots ≤ 4096 → chunks ≤ 4096 → tiers z ≤ 1024 → s < segments → {r next : Contents} → ChainSays z img s r
+    pub all-turns : slots ≤ 4096 → chunks ≤ 4096 → tiers z ≤ 1024 → s < segments → {r next : Result (ℕ × ℕ) ContentsError} → ChainSays z img s r
         → next ≡ joined sum r → AllSumming next (s + 1)
     all-turns a b c h {r} {next} q e =
         record {

@@ -1,5 +1,5 @@
 -- What the functions over the tiers' contents ask for. The definitions serve contracts alone.
-use Rattle.std.specs.Prelude.{ℕ, ◌+◌, ◌≤◌, ◌<◌, List, ◌≡◌, Bool, true, length, replicate}
+use Rattle.std.specs.Prelude.{ℕ, ◌+◌, ◌≤◌, ◌<◌, List, ◌≡◌, Bool, true, length, replicate, Result}
 use Rattle.lists.specs.Quantify.{Every}
 use Rattle.layout.specs.declared.Shape.{Shape}
 use Rattle.layout.specs.FramedTier.{FramedTier}
@@ -9,13 +9,13 @@ use Rattle.entries.specs.Live.{full_slots, live_in}
 use Rattle.search.specs.declared.reach.Run.{Run}
 use Rattle.search.specs.Reach.{RunTo, Alone}
 use Rattle.search.specs.Asking.{FramedChains, ChainedTier}
-use Rattle.contents.specs.declared.Contents.{Contents}
+use Rattle.contents.specs.declared.ContentsError.{ContentsError}
 use Rattle.once.specs.Asking.{FittingChain, ReadChain}
 use Rattle.chunks.specs.Counting.{chunks_of_all}
 use Rattle.contents.specs.Counting.{AtMost, Lists, TiersSay}
 
 -- two answers whose counts can be added
-pub record CanJoin (a b : Contents) : Type 0 where
+pub record CanJoin (a b : Result (ℕ × ℕ) ContentsError) : Type 0 where
   pub left : AtMost 4294967296 a
   pub right : AtMost 4294967296 b
 
@@ -57,7 +57,7 @@ module _ (z : Shape) (img : List ℕ) where
     pub reads : ReadChain z img s
     pub alone : FirstKnown s apart
 
-  pub record WithTiers (s : ℕ) (sum : Contents) (apart : Bool) : Type 0 where
+  pub record WithTiers (s : ℕ) (sum : Result (ℕ × ℕ) ContentsError) (apart : Bool) : Type 0 where
     pub fitting : FittingChain z img s
     pub says : TiersSay z img s sum
     pub alone : FirstKnown s apart

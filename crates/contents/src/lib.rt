@@ -1,7 +1,7 @@
 // What the tiers of an image hold: the rules of slots and entries and those of chunks and counters, tier by tier in one pass.
 #![tactic(auto)]
 
-ghost use Rattle.std.specs.Prelude.{◌≡◌};
+ghost use Rattle.std.specs.Prelude.{◌≡◌, length};
 ghost use Rattle.search.specs.Asking.{ChainedTier};
 ghost use Rattle.lists.specs.Decide.{Decides};
 ghost use Rattle.search.specs.Rules.{KeysOnce};
@@ -11,17 +11,14 @@ ghost use Rattle.contents.specs.Contents.{contents_of as contents_contents_of};
 ghost use Rattle.contents.specs.Counting.{joined as counting_joined, AtMost, Lists, Covers, ChunksSay, TierTold, TiersSay, ChainSays, AllSay, FreeSays};
 ghost use Rattle.contents.specs.Asking.{CanJoin, CanList, CanCover, CanCompare, KnownFirst, WithTiers, FittingChains};
 
-use chunks::Compared;
-use layout::Shape;
+use layout::{Header, Shape};
 use search::reach::Run;
-use search::rules::Slot;
 
-// All rules hold, with the live entries and the marked chunks; a rule of chunks or counters is broken; a rule of slots or entries is.
+// A rule of chunks or counters is broken; a rule of slots or entries is. Where all hold, the answer is the live entries and the marked chunks.
 #[derive(Clone, Copy)]
-pub enum Contents {
-    Fit(usize, usize),
-    BadChunks,
-    BadEntries,
+pub enum ContentsError {
+    Chunks,
+    Entries,
 }
 
 // How many slots may be met for each slot of a tier before the keys are compared in another way.
@@ -30,36 +27,32 @@ const STEPS: usize = 4;
 // Up to a sixteenth of a tier's slots is few.
 const FEW: usize = 16;
 
-// What was found of a tier, and whether it is known that no two of its full slots have the same key.
+// What was found of a tier, and whether it is known that no two of its full slots have the same key. The flag stands beside the answer, since
+// it is asked for where a rule of chunks or counters is broken, too.
 #[derive(Clone, Copy)]
 struct Tier {
-    contents: Contents,
+    contents: Result<(usize, usize), ContentsError>,
     apart: bool,
 }
 
-// The full slots of a tier meet what is asked of them one by one, and it is known, or not, that their keys differ; or one does not.
-#[derive(Clone, Copy)]
-enum Covered {
-    Held(bool),
-    Broken,
-}
-
 // Two answers as one: a broken rule of slots or entries comes first.
-fn joined(a: Contents, b: Contents) -> Contents
+fn joined(
+    a: Result<(usize, usize), ContentsError>,
+    b: Result<(usize, usize), ContentsError>,
+) -> Result<(usize, usize), ContentsError>
     requires { CanJoin a b }
     ensures { result ≡ counting_joined a b }
 {
     match a {
-        Contents::BadEntries => Contents::BadEntries,
-        Contents::BadChunks => match b {
-            Contents::BadEntries => Contents::BadEntries,
-            Contents::BadChunks => Contents::BadChunks,
-            Contents::Fit(_, _) => Contents::BadChunks,
+        Err(ContentsError::Entries) => Err(ContentsError::Entries),
+        Err(ContentsError::Chunks) => match b {
+            Err(ContentsError::Entries) => Err(ContentsError::Entries),
+            Err(ContentsError::Chunks) => Err(ContentsError::Chunks),
+            Ok(_) => Err(ContentsError::Chunks),
         },
-        Contents::Fit(entries, marked) => match b {
-            Contents::BadEntries => Contents::BadEntries,
-            Contents::BadChunks => Contents::BadChunks,
-            Contents::Fit(n, m) => Contents::Fit(entries + n, marked + m),
+        Ok((entries, marked)) => match b {
+            Err(e) => Err(e),
+            Ok((n, m)) => Ok((entries + n, marked + m)),
         },
     }
 }
@@ -70,66 +63,66 @@ fn list_full(z: Shape, img: &[u8], t: usize, list: &mut [u16]) -> usize
     requires { CanList z img.now t list.old }
     ensures { Lists z img.now t list.new result }
 {
-    let last = z.settings.slots - 1;
     let mut n = 0;
-    let mut j = 0;
-    while j <= last {
+    for j in 0..z.settings.slots {
         list[n] = j as u16;
         if layout::read::slot(z, img, t, j) != 0 {
             n += 1;
         }
-        j += 1;
     }
     n
 }
 
-// Whether each of the listed full slots of a tier meets what is asked of it alone; counts their entries at their chunks. The slots before
-// slot 0, wrapping, are the first run; keys are compared as long as the steps last.
+// Whether it is known that the keys of the listed full slots of a tier differ, where each slot meets what is asked of it alone; nothing
+// where one does not. Counts their entries at their chunks. The slots before slot 0, wrapping, are the first run; keys are compared as long as the
+// steps last.
 fn cover(
     z: Shape,
     img: &[u8],
     s: usize,
     t: usize,
     list: &[u16],
-    full: usize,
     first: Run,
     steps: usize,
     covered: &mut [u16],
-) -> Covered
-    requires { CanCover z img.now s t list.now full first covered.old }
+) -> Option<bool>
+    requires { CanCover z img.now s t list.now (length list.now) first covered.old }
     ensures { Covers z img.now s t covered.old covered.new result }
 {
     let mut run = first;
     let mut left = steps;
-    let mut i = 0;
-    while i < full {
-        let j = list[i] as usize;
+    for &full in list {
+        let j = full as usize;
         run = search::reach::run_up_to(run, j);
-        let Slot::Fits(c, n) = search::rules::slot_fits(z, img, s, t, j, run.length) else {
-            return Covered::Broken;
-        };
+        let (c, n) = search::rules::slot_fits(z, img, s, t, j, run.length)?;
         left = search::rules::steps_left(z, img, s, t, j, left);
         chunks::count(covered, c, n);
-        i += 1;
     }
-    Covered::Held(0 < left)
+    Some(0 < left)
 }
 
 // The chunks and counters of a tier with so many full slots, whose entries were counted at their chunks.
-fn tier_chunks(z: Shape, img: &[u8], s: usize, t: usize, full: usize, covered: &[u16]) -> Contents
+fn tier_chunks(
+    z: Shape,
+    img: &[u8],
+    s: usize,
+    t: usize,
+    full: usize,
+    covered: &[u16],
+) -> Result<(usize, usize), ContentsError>
     requires { CanCompare z img.now s t full covered.now }
     ensures { ChunksSay z img.now s t result }
 {
-    let Compared::Same(marked) = chunks::marks_agree(z, img, t, covered) else {
-        return Contents::BadChunks;
+    let Some(marked) = chunks::marks_agree(z, img, t, covered) else {
+        return Err(ContentsError::Chunks);
     };
-    if layout::read::count_of(z, img, t) != full as u64 {
-        return Contents::BadChunks;
+    if layout::read::shared(z, img, t, Header::EntryCount) != full as u64 {
+        return Err(ContentsError::Chunks);
     }
     if !chunks::low_mark_fits(z, img, t) {
-        return Contents::BadChunks;
+        return Err(ContentsError::Chunks);
     }
-    Contents::Fit(full, marked)
+    Ok((full, marked))
 }
 
 // One tier of segment s's chain: its full slots and its marked chunks.
@@ -140,7 +133,7 @@ fn tier_contents(z: Shape, img: &[u8], s: usize, t: usize, steps: usize) -> Tier
     let end = search::reach::full_at_end(z, img, t);
     if end == z.settings.slots {
         return Tier {
-            contents: Contents::BadEntries,
+            contents: Err(ContentsError::Entries),
             apart: false,
         };
     }
@@ -151,9 +144,9 @@ fn tier_contents(z: Shape, img: &[u8], s: usize, t: usize, steps: usize) -> Tier
         next: 0,
         length: end,
     };
-    let Covered::Held(apart) = cover(z, img, s, t, &list, full, first, steps, &mut covered) else {
+    let Some(apart) = cover(z, img, s, t, &list[..full], first, steps, &mut covered) else {
         return Tier {
-            contents: Contents::BadEntries,
+            contents: Err(ContentsError::Entries),
             apart: false,
         };
     };
@@ -181,31 +174,39 @@ fn keys_fit(z: Shape, img: &[u8], s: usize, apart: bool, later: usize) -> bool
 fn later_entries(z: Shape, img: &[u8], s: usize, entries: usize) -> usize
     requires { FittingChain z img.now s }
 {
-    let main = layout::read::count_of(z, img, s + 1) as usize;
+    let main = layout::read::shared(z, img, s + 1, Header::EntryCount) as usize;
     if main <= entries { entries - main } else { 0 }
 }
 
 // What was found of the tiers of segment s's chain, and whether no key has two slots in it.
-fn with_keys(z: Shape, img: &[u8], s: usize, sum: Contents, apart: bool) -> Contents
+fn with_keys(
+    z: Shape,
+    img: &[u8],
+    s: usize,
+    sum: Result<(usize, usize), ContentsError>,
+    apart: bool,
+) -> Result<(usize, usize), ContentsError>
     requires { WithTiers z img.now s sum apart }
     ensures { ChainSays z img.now s result }
 {
     match sum {
-        Contents::BadEntries => Contents::BadEntries,
-        Contents::BadChunks => {
-            // how many stand after the first tier is not known
-            if keys_fit(z, img, s, apart, z.settings.slots) {
-                Contents::BadChunks
-            } else {
-                Contents::BadEntries
+        Err(error) => match error {
+            ContentsError::Entries => Err(ContentsError::Entries),
+            ContentsError::Chunks => {
+                // how many stand after the first tier is not known
+                if keys_fit(z, img, s, apart, z.settings.slots) {
+                    Err(ContentsError::Chunks)
+                } else {
+                    Err(ContentsError::Entries)
+                }
             }
-        }
-        Contents::Fit(entries, marked) => {
+        },
+        Ok((entries, marked)) => {
             let later = later_entries(z, img, s, entries);
             if keys_fit(z, img, s, apart, later) {
-                Contents::Fit(entries, marked)
+                Ok((entries, marked))
             } else {
-                Contents::BadEntries
+                Err(ContentsError::Entries)
             }
         }
     }
@@ -213,11 +214,11 @@ fn with_keys(z: Shape, img: &[u8], s: usize, sum: Contents, apart: bool) -> Cont
 
 // The tiers of segment s's chain. Most chains are one tier whose slots stand near their start slots: there each key is compared with those
 // on its way.
-fn chain_contents(z: Shape, img: &[u8], s: usize) -> Contents
+fn chain_contents(z: Shape, img: &[u8], s: usize) -> Result<(usize, usize), ContentsError>
     requires { FittingChain z img.now s }
     ensures { ChainSays z img.now s result }
 {
-    let mut sum = Contents::Fit(0, 0);
+    let mut sum = Ok((0, 0));
     let mut apart = false;
     let mut t = s + 1;
     while t != 0 {
@@ -232,10 +233,10 @@ fn chain_contents(z: Shape, img: &[u8], s: usize) -> Contents
         if t == s + 1 {
             apart = tier.apart;
         }
-        t = layout::read::next_of(z, img, t) as usize;
+        t = layout::read::shared(z, img, t, Header::NextTier) as usize;
     }
     if apart {
-        if layout::read::next_of(z, img, s + 1) == 0 {
+        if layout::read::shared(z, img, s + 1, Header::NextTier) == 0 {
             return sum;
         }
     }
@@ -243,32 +244,30 @@ fn chain_contents(z: Shape, img: &[u8], s: usize) -> Contents
 }
 
 // The tiers of all chains.
-fn chained_contents(z: Shape, img: &[u8]) -> Contents
+fn chained_contents(z: Shape, img: &[u8]) -> Result<(usize, usize), ContentsError>
     requires { FittingChains z img.now }
     ensures { AllSay z img.now z.settings.segments result × AtMost 4294967296 result }
 {
-    let mut sum = Contents::Fit(0, 0);
-    let mut s = 0;
-    while s < z.settings.segments {
+    let mut sum = Ok((0, 0));
+    for s in 0..z.settings.segments {
         sum = joined(sum, chain_contents(z, img, s));
-        s += 1;
     }
     sum
 }
 
 // The free tiers, which hold nothing.
-fn free_contents(z: Shape, img: &[u8]) -> Contents
+fn free_contents(z: Shape, img: &[u8]) -> Result<(usize, usize), ContentsError>
     requires { FramedFree z img.now }
     ensures { FreeSays z img.now result }
 {
     if chunks::free_fits(z, img) {
-        return Contents::Fit(0, 0);
+        return Ok((0, 0));
     }
-    Contents::BadChunks
+    Err(ContentsError::Chunks)
 }
 
 // What the tiers of an image hold whose chains fit.
-pub fn contents_of(z: Shape, img: &[u8]) -> Contents
+pub fn contents_of(z: Shape, img: &[u8]) -> Result<(usize, usize), ContentsError>
     requires { FittingChains z img.now }
     ensures { result ≡ contents_contents_of z img.now }
 {

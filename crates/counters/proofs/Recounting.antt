@@ -10,7 +10,12 @@ use Rattle.lists.specs.Cases.{same_or}
 use Rattle.lists.specs.Quantify.{Every, every-cons, every-none}
 use Rattle.layout.specs.declared.Shape.{Shape}
 use Rattle.layout.specs.Tiers.{IsTier}
-use Rattle.layout.specs.Places.{Global, firstFree, usedTiers, entry_count, lowestFree, nextTier, Counter, next, low, count, previous, segment, order, Place, global, tier, slot, counter, free, byte, counter_no, In, get, put, next_place, low_place, count_place, ◌≔◌, puts}
+use Rattle.layout.specs.declared.Global.{Global}
+use Rattle.layout.specs.declared.Global.TheVariants.{FirstFree as firstFree, UsedTiers as usedTiers}
+use Rattle.layout.specs.declared.Header.TheVariants.{EntryCount as entry_count, LowestFree as lowestFree, NextTier as nextTier}
+use Rattle.layout.specs.declared.Counter.{Counter}
+use Rattle.layout.specs.declared.Counter.TheVariants.{Next as next, Low as low, Count as count, Previous as previous, Segment as segment, Order as order}
+use Rattle.layout.specs.Places.{Place, global, tier, slot, counter, free, byte, counter_no, In, get, put, next_place, low_place, count_place, ◌≔◌, puts}
 use Rattle.layout.specs.Frame.{Image}
 use Rattle.layout.proofs.Places.{written, get-same, get_other, get-puts-other, image-put, image-puts, length-puts, shared_in, shared-never, shared-slot, shared-free, shared-byte, shared-tiers, shared-fields, global-lt}
 use Rattle.chains.specs.Chains.{chain, free_chain, ChainsFit}
@@ -24,7 +29,8 @@ use Rattle.sound.specs.Sound.{SoundImage, SoundBut}
 use Rattle.counters.specs.Recount.{recount, settle}
 use Rattle.chains.proofs.Tiers.{chain-tiers}
 use Rattle.sound.proofs.Sound.{sound-image, but-sound, but-less}
-use Rattle.counters.proofs.CountRoom.{count_room, low-room, full-few}
+use Rattle.entries.proofs.FullSlots.{full-few}
+use Rattle.counters.proofs.CountRoom.{count_room, low-room}
 use Rattle.sound.proofs.AgreeTier.{SameSlots, SameTier, same_full, same-lowest, same-weigh}
 use Rattle.chains.proofs.AgreeChains.{SameChains, same-chain, same-free_chain}
 use Rattle.sound.proofs.Replaced.{OnlyTier, tier-stays, tier-replaced, pairs-replaced}

@@ -1,5 +1,5 @@
 -- Counters follow: the entry count and the lowest free chunk field of a tier, after its slots and bits were changed.
-use Rattle.std.specs.Prelude.{ℕ, List, [], ◌∷◌, true, false, ◌||◌, eqb, length}
+use Rattle.std.specs.Prelude.{ℕ, List, [], ◌∷◌, true, false, ◌||◌, eqb, Option, Some, None, length}
 use Rattle.layout.specs.declared.Shape.{Shape}
 use Rattle.layout.specs.Places.{◌≔◌, puts, count_place, low_place}
 use Rattle.entries.specs.Live.{full_slots}
@@ -16,3 +16,8 @@ settle z img (t ∷ ts) = settle z (recount z img t) ts
 -- the tiers that an edit changed: t, and another tier u if there is one (0 is none)
 unfoldable pub touched : ℕ → ℕ → List ℕ
 touched t u = elim (eqb u 0 || eqb u t) [ true ↦ t ∷ [] | false ↦ t ∷ u ∷ [] ]
+
+-- the same, as the code carries the other tier
+abbrev pub touched_with : ℕ → Option ℕ → List ℕ
+touched_with t None = t ∷ []
+touched_with t (Some u) = touched t u

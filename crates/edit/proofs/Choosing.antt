@@ -3,7 +3,8 @@ use Prim.Native.Nat.{ℕ}
 use mathlib.Core.List.{List}
 use mathlib.Core.Path.{◌≡◌, ap, ap₂, sym, ◌∙◌, subst}
 use mathlib.Core.Bool.{Bool, true, false}
-use mathlib.Core.Option.{Option, none, some}
+use mathlib.Core.Option.{Option as Maybe, none, some}
+use Rattle.std.proofs.Common.{Option, None, Some}
 use native.Mathlib.Omega.{arith}
 use lib.ListN.{length}
 use Rattle.words.specs.Bytes.{Bytes}
@@ -22,9 +23,8 @@ use Rattle.unlinking.proofs.Emptied.{main-stays}
 use Rattle.edit.specs.declared.Policy.{Policy}
 use Rattle.edit.specs.declared.Policy.TheVariants.{Tight}
 use Rattle.edit.specs.Edits.{find, on_the_spot, spot_of, entry_in, stored_entry, store_image}
-use Rattle.edit.specs.Replaced.{old_of, old_on_the_spot, Stores, Storable, Walks}
+use Rattle.edit.specs.Replaced.{carried, old_of, old_on_the_spot, Stores, Storable, Walks}
 use Rattle.edit.proofs.Replacing.{found-old}
-use Rattle.edit.proofs.Storage.{walk-asks}
 use Rattle.edit.proofs.Policies.{Spot, spot-some, old-spot, old-moves}
 use Rattle.edit.proofs.Roomy.{replacement-room}
 use Rattle.edit.proofs.OnTheSpot.{spot-chunk, rewrites}
@@ -40,49 +40,48 @@ module _ {z : Shape} {img key value : List ℕ} {w : Walk} {n : ℕ} (k : Walks 
   old-is : w.old ≡ old_of (find z img key)
   old-is = k.walked.old_is ∙ found-old z img k.storable.sound key
 
-  module _ (policy : Policy) {b : Bool} (eb : b ≡ old_on_the_spot policy w.old n) where
-    by-find : b ≡ old_on_the_spot policy (old_of (find z img key)) needed
-    by-find = eb ∙ ap₂ (λ (o : Old) (m : ℕ). old_on_the_spot policy o m) old-is k.chunks_is
+  module _ (policy : Policy) {r : Option Old} (er : r ≡ old_on_the_spot policy w.old n) where
+    by-find : r ≡ old_on_the_spot policy (old_of (find z img key)) needed
+    by-find = er ∙ ap₂ (λ (o : Option Old) (m : ℕ). old_on_the_spot policy o m) old-is k.chunks_is
 
     -- ---- on the spot
 
-    module _ (t : b ≡ true) where
-      spot : (e : Live) × Spot policy needed (find z img key) e
-      spot = old-spot policy needed (find z img key) (rw k.chunks_is at (walk-asks k.storable k.chunks_is).some) (sym by-find ∙ t)
+    module _ (a : Old) (t : r ≡ Some a) where
+      spot : (e : Live) × (a ≡ carried e) × Spot policy needed (find z img key) e
+      spot = old-spot policy needed (find z img key) a (sym by-find ∙ t)
 
       abbrev e : Live
       e = spot.0
 
-      old-here : w.old ≡ old_of (some e)
-      old-here = old-is ∙ ap old_of spot.1.found
+      known : Spot policy needed (find z img key) e
+      known = spot.2
 
-      pub spot-writes : Bytes key → Bytes value → CanWrite z img w.old.tier w.old.chunk key value
-      unfolding old_of
+      pub spot-writes : Bytes key → Bytes value → CanWrite z img a.tier a.chunk key value
       spot-writes kb vb =
-          let chunk-is : e.chunk ≡ chunk_of z img e.tier e.slot = spot-chunk z img key e spot.1.found in
+          let chunk-is : e.chunk ≡ chunk_of z img e.tier e.slot = spot-chunk z img key e known.found in
           let at_slot : CanWrite z img e.tier (chunk_of z img e.tier e.slot) key value =
           rewrite-asks
           (rewrites
-          (record { storable = k.storable; key_bytes = kb; value_bytes = vb; is_found = spot.1.found; as_many = spot.1.as_many })) in
-          subst (λ (o : Old). CanWrite z img o.tier o.chunk key value) (sym old-here)
+          (record { storable = k.storable; key_bytes = kb; value_bytes = vb; is_found = known.found; as_many = known.as_many })) in
+          subst (λ (o : Old). CanWrite z img o.tier o.chunk key value) (sym spot.1)
           (subst (λ (c : ℕ). CanWrite z img e.tier c key value) (sym chunk-is) at_slot)
 
       spot-of : spot_of policy z img key value ≡ some e
-      spot-of = ap₂ (λ (p : Policy) (o : Option Live). on_the_spot p needed o) spot.1.policy_is spot.1.found ∙ spot-some needed e spot.1.as_many
+      spot-of = ap₂ (λ (p : Policy) (o : Maybe Live). on_the_spot p needed o) known.policy_is known.found ∙ spot-some needed e known.as_many
 
-      pub spot-stored : {y : List ℕ} → y ≡ write_entry z img w.old.tier w.old.chunk key value → Stores policy z img key value true y
-      unfolding store_image stored_entry entry_in settle old_of
+      pub spot-stored : {y : List ℕ} → y ≡ write_entry z img a.tier a.chunk key value → Stores policy z img key value true y
+      unfolding store_image stored_entry entry_in settle
       spot-stored ey = (
-        replacement-room z img k.storable.sound key value e spot.1.found (omega (arith, spot.1.as_many)),
+        replacement-room z img k.storable.sound key value e known.found (omega (arith, known.as_many)),
         ey
-            ∙ ap (λ (o : Old). write_entry z img o.tier o.chunk key value) old-here
+            ∙ ap (λ (o : Old). write_entry z img o.tier o.chunk key value) spot.1
             ∙ sym (main-stays z _ 0 (omega arith))
             ∙ sym (ap (stored_entry z img key value) spot-of),
       )
 
     -- ---- as the tight store
 
-    pub tight-stored : b ≡ false → (r : Bool) (y : List ℕ) → Stores Tight z img key value r y → Stores policy z img key value r y
+    pub tight-stored : r ≡ None → (done : Bool) (y : List ℕ) → Stores Tight z img key value done y → Stores policy z img key value done y
     unfolding store_image on_the_spot
     tight-stored f true y s =
         let none-there : spot_of policy z img key value ≡ none =

@@ -4,10 +4,11 @@ use mathlib.Core.List.{List}
 use mathlib.Core.Path.{◌≡◌, refl, ap, ap₂, sym, ◌∙◌, subst, subst₂}
 use mathlib.Core.Logic.{◌≢◌}
 use mathlib.Core.Bool.{true, false}
-use mathlib.Core.Option.{Option, none, some}
+use mathlib.Core.Option.{Option as Maybe, none, some}
+use Rattle.std.proofs.Common.{Option, None, Some, IfSome}
+use Rattle.std.proofs.lemmas.Option.{none-some, same_Some}
 use native.Mathlib.Omega.{arith}
 use lib.ListN.{length}
-use borrow.Author.Tests.{eq-eqb, ne_eqb}
 use Rattle.layout.specs.declared.Shape.{Shape}
 use Rattle.layout.specs.Tiers.{IsTier}
 use Rattle.layout.specs.Frame.{Framed}
@@ -25,51 +26,68 @@ use Rattle.search.specs.Search.{search, ChainTiers}
 use Rattle.search.specs.Rules.{EntryFits, keyAt, chunks_at}
 use Rattle.chunks.specs.Chunks.{LowMarkFits}
 use Rattle.sound.specs.Sound.{SoundWith, SoundImage}
-use Rattle.counters.specs.Recount.{recount, settle, touched}
+use Rattle.counters.specs.Recount.{recount, settle, touched, touched_with}
 use Rattle.sound.proofs.Sound.{sound-image}
 use Rattle.sound.proofs.Marked.{entry-inside}
 use Rattle.removal.specs.Removal.{remove_at}
 use Rattle.placement.specs.declared.Old.{Old}
-use Rattle.placement.specs.OldEntry.{no_old, old_at, old_found}
+use Rattle.placement.specs.OldEntry.{OtherTier, old_at, old_found}
 use Rattle.placement.specs.Placement.{place_at}
 use Rattle.joining.specs.Joining.{join}
 use Rattle.unlinking.specs.Unlinking.{unlink_empty}
 use Rattle.unlinking.specs.Asking.{CanUnlinkEmpty}
 use Rattle.unlinking.proofs.Emptied.{main-stays}
 use Rattle.edit.specs.Edits.{find, without_entry, without, left, removed_entry, remove_image, tier_of}
-use Rattle.edit.specs.Replaced.{old_of, without_old, placed_old, replaced_old, extended_old, OldFits, is_there}
+use Rattle.edit.specs.Replaced.{old_of, without_old, old_tier, old_home, placed_old, replaced_old, extended_old, OldFits, is_there}
 use Rattle.edit.proofs.Finding.{find-live, search-found, search-none}
 use Rattle.edit.proofs.Without.{remove-leaves}
 
 -- ---- removed, or there is none
 
-module _ (z : Shape) (img : List ℕ) (old : Old) where
-  pub without_old-none : old.tier ≡ 0 → img ≡ without_old z img old
+module _ (z : Shape) (img : List ℕ) where
+  pub without_old-none : {old : Option Old} → old ≡ None → img ≡ without_old z img old
   unfolding without_old
-  without_old-none e = rw (eq-eqb old.tier 0 e, without_old)
+  without_old-none e = rw e
 
-  pub without_old-some : old.tier ≢ 0 → remove_at z img old.tier old.slot old.chunk old.chunks ≡ without_old z img old
+  pub without_old-some : {old : Option Old} {o : Old} → old ≡ Some o → remove_at z img o.tier o.slot o.chunk o.chunks ≡ without_old z img old
   unfolding without_old
-  without_old-some e = rw (ne_eqb old.tier 0 e, without_old)
+  without_old-some e = rw e
+
+  pub old_home-none : {old : Option Old} → old ≡ None → img ≡ old_home z img old
+  unfolding old_home
+  old_home-none e = rw e
+
+  pub old_home-some : {old : Option Old} {o : Old} → old ≡ Some o → unlink_empty z img o.tier ≡ old_home z img old
+  unfolding old_home
+  old_home-some e = rw e
+
+-- its tier, where it has one
+pub tiers_in : (z : Shape) (old : Option Old) → IfSome old (OldFits z) → IfSome (old_tier old) (IsTier z)
+tiers_in z None h = tt
+tiers_in z (Some o) h = h.tier_in
+
+pub settled_by : (z : Shape) (x : List ℕ) (t : ℕ) (old : Option Old) {y : List ℕ} {u : Option ℕ} → u ≡ old_tier old
+    → y ≡ settle z x (touched_with t u) → y ≡ settle z x (touched_with t (old_tier old))
+settled_by z x t old e h = h ∙ ap (λ (o : Option ℕ). settle z x (touched_with t o)) e
 
 -- the steps of a store, where the code has the image after each
-module _ (z : Shape) (img : List ℕ) (old : Old) where
+module _ (z : Shape) (img : List ℕ) (old : Option Old) where
   pub placed-is : (t c : ℕ) (key value : List ℕ) {one two three : List ℕ} → one ≡ without_old z img old → two ≡ place_at z one t c key value
-      → three ≡ settle z two (touched t old.tier) → three ≡ placed_old z img old t c key value
+      → three ≡ settle z two (touched_with t (old_tier old)) → three ≡ placed_old z img old t c key value
   unfolding placed_old
   placed-is t c key value e₁ e₂ e₃ =
-      e₃ ∙ ap (λ (x : List ℕ). settle z x (touched t old.tier)) (e₂ ∙ ap (λ (x : List ℕ). place_at z x t c key value) e₁)
+      e₃ ∙ ap (λ (x : List ℕ). settle z x (touched_with t (old_tier old))) (e₂ ∙ ap (λ (x : List ℕ). place_at z x t c key value) e₁)
 
   pub replaced-is : (t c : ℕ) (key value : List ℕ) {three four : List ℕ} → three ≡ placed_old z img old t c key value
-      → four ≡ unlink_empty z three old.tier → four ≡ replaced_old z img old t c key value
+      → four ≡ old_home z three old → four ≡ replaced_old z img old t c key value
   unfolding replaced_old
-  replaced-is t c key value e₃ e₄ = e₄ ∙ ap (λ (x : List ℕ). unlink_empty z x old.tier) e₃
+  replaced-is t c key value e₃ e₄ = e₄ ∙ ap (λ (x : List ℕ). old_home z x old) e₃
 
   pub extended-is : (s t : ℕ) (key value : List ℕ) {one two three four : List ℕ} → one ≡ without_old z img old → two ≡ join z one s
-      → three ≡ place_at z two t 0 key value → four ≡ settle z three (touched t old.tier) → four ≡ extended_old z img old s t key value
+      → three ≡ place_at z two t 0 key value → four ≡ settle z three (touched_with t (old_tier old)) → four ≡ extended_old z img old s t key value
   unfolding extended_old
   extended-is s t key value e₁ e₂ e₃ e₄ =
-      e₄ ∙ ap (λ (x : List ℕ). settle z x (touched t old.tier))
+      e₄ ∙ ap (λ (x : List ℕ). settle z x (touched_with t (old_tier old)))
       (e₃ ∙ ap (λ (x : List ℕ). place_at z x t 0 key value) (e₂ ∙ ap (λ (x : List ℕ). join z x s) e₁))
 
 module _ (z : Shape) (img : List ℕ) {C : Type 0} (sound : SoundWith C z img) where
@@ -128,71 +146,99 @@ module _ (z : Shape) (img : List ℕ) (sound : SoundImage z img) where
 
     -- ---- by what is found
 
-    fits_by : (o : Option Live) → find z img key ≡ o → OldFits z (old_of o)
+    fits_by : (o : Maybe Live) → find z img key ≡ o → IfSome (old_of o) (OldFits z)
     unfolding old_of
-    fits_by none f = record { tier_in = λ n. absurd (n refl); slot_in = omega (arith, sound.fits.valid.slots); range_ends = omega arith }
+    fits_by none f = tt
     fits_by (some e) f =
         let l : IsLive z img e = found-live e f in
-        record { tier_in = λ _. live-tier e l; slot_in = l.slot_in; range_ends = live-range e l }
+        record { tier_in = live-tier e l; slot_in = l.slot_in; range_ends = live-range e l }
 
-    out-by : (o : Option Live) → find z img key ≡ o → without_old z img (old_of o) ≡ without_entry z img o
-    unfolding old_of without_entry
-    out-by none f = sym (without_old-none z img (old_of none) refl)
-    out-by (some e) f = sym (without_old-some z img (old_of (some e)) (found-tier e f))
+    out-by : (o : Maybe Live) → without_old z img (old_of o) ≡ without_entry z img o
+    unfolding old_of without_old without_entry
+    out-by none = refl
+    out-by (some e) = refl
 
-    tier-by : (o : Option Live) → (old_of o).tier ≡ tier_of o
+    touched-by : (t : ℕ) (o : Maybe Live) → touched_with t (old_tier (old_of o)) ≡ touched t (tier_of o)
+    unfolding old_of touched
+    touched-by t none = refl
+    touched-by t (some e) = refl
+
+    home-by : (x : List ℕ) (o : Maybe Live) → old_home z x (old_of o) ≡ unlink_empty z x (tier_of o)
+    unfolding old_of old_home
+    home-by x none = sym (main-stays z x 0 (omega arith))
+    home-by x (some e) = refl
+
+    leaves-by : (x : List ℕ) (o : Maybe Live) → CanUnlinkEmpty z x (tier_of o) → IfSome (old_of o) (λ a. CanUnlinkEmpty z x a.tier)
     unfolding old_of
-    tier-by none = refl
-    tier-by (some e) = refl
+    leaves-by x none h = tt
+    leaves-by x (some e) h = h
 
-    none-by : (o : Option Live) → find z img key ≡ o → tier_of o ≡ 0 → (false ≡ is_there o) × (img ≡ removed_entry z img o)
-    unfolding removed_entry without_entry settle
-    none-by none f q = (refl, sym (main-stays z img 0 (omega arith)))
-    none-by (some e) f q = absurd (found-tier e f q)
+    other-by : (t : ℕ) (o : Maybe Live) → IsTier z t → OtherTier (old_of o) t → t ≢ tier_of o
+    unfolding old_of
+    other-by t none is h = λ (q : t ≡ 0). omega (arith, is)
+    other-by t (some e) is h = h
 
-    some-by : (o : Option Live) → tier_of o ≢ 0
-        → (true ≡ is_there o) × (unlink_empty z (recount z (without_entry z img o) (tier_of o)) (tier_of o) ≡ removed_entry z img o)
-    unfolding removed_entry without_entry settle
-    some-by none q = absurd (q refl)
-    some-by (some e) q = (refl, refl)
+    tier-by : (a : Old) (o : Maybe Live) → Some a ≡ old_of o → a.tier ≡ tier_of o
+    unfolding old_of
+    tier-by a none q = absurd (none-some a (sym q))
+    tier-by a (some e) q = ap (λ (x : Old). x.tier) (same_Some _ _ q)
 
-    module _ (old : Old) (is : old ≡ old_of (find z img key)) where
-      pub old-fits : OldFits z old
-      old-fits = subst (OldFits z) (sym is) (fits_by (find z img key) refl)
+    none-by : (o : Maybe Live) → None ≡ old_of o → (false ≡ is_there o) × (img ≡ removed_entry z img o)
+    unfolding old_of removed_entry without_entry settle
+    none-by none q = (refl, sym (main-stays z img 0 (omega arith)))
+    none-by (some e) q = absurd (none-some _ q)
+
+    some-by : (a : Old) (o : Maybe Live) → Some a ≡ old_of o
+        → (true ≡ is_there o) × (recount z (without_entry z img o) (tier_of o) ≡ settle z (without_entry z img o) (left o))
+    unfolding old_of settle
+    some-by a none q = absurd (none-some a (sym q))
+    some-by a (some e) q = (refl, refl)
+
+    module _ (old : Option Old) (is : old ≡ old_of (find z img key)) where
+      pub old-fits : IfSome old (OldFits z)
+      old-fits = subst (λ (o : Option Old). IfSome o (OldFits z)) (sym is) (fits_by (find z img key) refl)
 
       pub without_old-is : without_old z img old ≡ without z img key
       unfolding without
-      without_old-is = ap (without_old z img) is ∙ out-by (find z img key) refl
+      without_old-is = ap (without_old z img) is ∙ out-by (find z img key)
 
-      pub old-tier : old.tier ≡ tier_of (find z img key)
-      old-tier = ap (λ (x : Old). x.tier) is ∙ tier-by (find z img key)
+      pub touched-is : (t : ℕ) → touched_with t (old_tier old) ≡ touched t (tier_of (find z img key))
+      touched-is t = ap (λ (o : Option Old). touched_with t (old_tier o)) is ∙ touched-by t (find z img key)
+
+      pub home-is : (x : List ℕ) → old_home z x old ≡ unlink_empty z x (tier_of (find z img key))
+      home-is x = ap (old_home z x) is ∙ home-by x (find z img key)
+
+      pub leaves-is : (x : List ℕ) → CanUnlinkEmpty z x (tier_of (find z img key)) → IfSome old (λ a. CanUnlinkEmpty z x a.tier)
+      leaves-is x h = subst (λ (o : Option Old). IfSome o (λ a. CanUnlinkEmpty z x a.tier)) (sym is) (leaves-by x (find z img key) h)
+
+      pub other-is : (t : ℕ) → IsTier z t → OtherTier old t → t ≢ tier_of (find z img key)
+      other-is t it h = other-by t (find z img key) it (subst (λ (o : Option Old). OtherTier o t) is h)
 
       -- a removal, where there is none and where there is one
-      pub removes-none : old.tier ≡ 0 → (false ≡ is_there (find z img key)) × (img ≡ remove_image z img key)
+      pub removes-none : old ≡ None → (false ≡ is_there (find z img key)) × (img ≡ remove_image z img key)
       unfolding remove_image
-      removes-none q = none-by (find z img key) refl (sym old-tier ∙ q)
+      removes-none q = none-by (find z img key) (sym q ∙ is)
 
-      module _ (q : old.tier ≢ 0) {x y : List ℕ} (ex : x ≡ without_old z img old) (ey : y ≡ recount z x old.tier) where
-        recounted : y ≡ recount z (without z img key) (tier_of (find z img key))
-        recounted = ey ∙ ap₂ (recount z) (ex ∙ without_old-is) old-tier
+      module _ (a : Old) (q : old ≡ Some a) where
+        pub some-fits : OldFits z a
+        some-fits = rw q at old-fits
 
-        settled-by : (o : Option Live) → tier_of o ≢ 0 → settle z (without z img key) (left o) ≡ recount z (without z img key) (tier_of o)
-        unfolding settle
-        settled-by none ne = absurd (ne refl)
-        settled-by (some e) ne = refl
+        its-tier : a.tier ≡ tier_of (find z img key)
+        its-tier = tier-by a (find z img key) (sym q ∙ is)
 
-        pub removes-leaves : CanUnlinkEmpty z y old.tier
-        removes-leaves =
-            subst₂ (CanUnlinkEmpty z) (settled-by (find z img key) (λ e. q (old-tier ∙ e)) ∙ sym recounted) (sym old-tier)
-            (remove-leaves z img sound key)
+        module _ {x y : List ℕ} (ex : x ≡ without_old z img (Some a)) (ey : y ≡ recount z x a.tier) where
+          settled : y ≡ settle z (without z img key) (left (find z img key))
+          unfolding without
+          settled =
+              ey ∙ ap₂ (recount z) (ex ∙ ap (without_old z img) (sym q) ∙ without_old-is) its-tier
+              ∙ (some-by a (find z img key) (sym q ∙ is)).1
 
-        pub removes-some : {i : List ℕ} → i ≡ unlink_empty z y old.tier → (true ≡ is_there (find z img key)) × (i ≡ remove_image z img key)
-        unfolding remove_image without
-        removes-some ei =
-            let o : Option Live = find z img key in
-            let r : (true ≡ is_there o) × (unlink_empty z (recount z (without_entry z img o) (tier_of o)) (tier_of o) ≡ remove_image z img key) =
-            some-by o (λ e. q (old-tier ∙ e)) in
-            (r.0, ei ∙ ap₂ (unlink_empty z) recounted old-tier ∙ r.1)
+          pub removes-leaves : CanUnlinkEmpty z y a.tier
+          removes-leaves = subst₂ (CanUnlinkEmpty z) (sym settled) (sym its-tier) (remove-leaves z img sound key)
+
+          pub removes-some : {i : List ℕ} → i ≡ unlink_empty z y a.tier → (true ≡ is_there (find z img key)) × (i ≡ remove_image z img key)
+          unfolding remove_image removed_entry without
+          removes-some ei = ((some-by a (find z img key) (sym q ∙ is)).0, ei ∙ ap₂ (unlink_empty z) settled its-tier)
 
     -- ---- by the search
 
@@ -205,9 +251,9 @@ module _ (z : Shape) (img : List ℕ) (sound : SoundImage z img) where
     found-old = found-by (search z img key) refl
 
     module _ (r : Found) (e : r ≡ search z img key) (t j : ℕ) where
-      pub old-absent : r ≡ Absent t j → {old : Old} → old ≡ no_old → old ≡ old_of (find z img key)
+      pub old-absent : r ≡ Absent t j → None ≡ old_of (find z img key)
       unfolding old_found
-      old-absent f eo = eo ∙ found-by (Absent t j) (sym e ∙ f)
+      old-absent f = found-by (Absent t j) (sym e ∙ f)
 
       module _ (f : r ≡ At t j) where
         pub old_in : IsTier z t × (j < slots)
@@ -217,6 +263,6 @@ module _ (z : Shape) (img : List ℕ) (sound : SoundImage z img) where
             found-live (live_at z img (segment_of settings key) t j) (search-found z img sound key t j (sym e ∙ f)) in
             (live-tier (live_at z img (segment_of settings key) t j) l, l.slot_in)
 
-        pub old-found : {old : Old} → old ≡ old_at z img t j → old ≡ old_of (find z img key)
+        pub old-found : {old : Old} → old ≡ old_at z img t j → Some old ≡ old_of (find z img key)
         unfolding old_found
-        old-found eo = eo ∙ found-by (At t j) (sym e ∙ f)
+        old-found eo = ap (λ (o : Old). Some o) eo ∙ found-by (At t j) (sym e ∙ f)

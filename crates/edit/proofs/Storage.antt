@@ -1,7 +1,7 @@
 -- What the code of a store knows at each step, by the scan's answer.
 use Prim.Native.Nat.{ℕ, ◌<◌}
 use mathlib.Core.List.{List}
-use mathlib.Core.Path.{◌≡◌, refl, ap₂, sym, ◌∙◌, subst₂}
+use mathlib.Core.Path.{◌≡◌, refl, ap, ap₂, sym, ◌∙◌}
 use mathlib.Core.Logic.{◌≢◌}
 use mathlib.Core.Bool.{true, false}
 use native.Mathlib.Omega.{arith}
@@ -10,7 +10,8 @@ use borrow.Author.Tests.{eq-eqb, ne_eqb}
 use Rattle.words.specs.Bytes.{Bytes}
 use Rattle.layout.specs.declared.Shape.{Shape}
 use Rattle.layout.specs.Tiers.{IsTier}
-use Rattle.layout.specs.Places.{get, global, usedTiers}
+use Rattle.layout.specs.declared.Global.TheVariants.{UsedTiers as usedTiers}
+use Rattle.layout.specs.Places.{get, global}
 use Rattle.chains.specs.Chains.{free_head}
 use Rattle.entries.specs.Keys.{segment_of}
 use Rattle.entries.proofs.Sizes.{chunks-pos}
@@ -26,17 +27,19 @@ use Rattle.placement.specs.declared.walk.EntryPlace.{EntryPlace}
 use Rattle.placement.specs.Asking.{KnownFor, CanScanRest, CanWalk}
 use Rattle.placement.specs.Walking.{PlaceIs, PlaceAfter}
 use Rattle.placement.specs.Placement.{place_at}
-use Rattle.placement.proofs.Walking.{not_known, rest-asks}
+use Rattle.placement.proofs.Walking.{rest-asks}
+use Rattle.std.proofs.lemmas.Option.{none-some, IfSome_then}
+use Rattle.std.proofs.Common.{Option}
+use Rattle.placement.specs.OldEntry.{OtherTier}
 use Rattle.placement.proofs.Before.{Places, is-tier, can-place}
 use Rattle.joining.specs.Joining.{join}
 use Rattle.joining.proofs.Ends.{new-tier, used-small}
 use Rattle.edit.specs.declared.Policy.TheVariants.{Tight}
 use Rattle.unlinking.specs.Unlinking.{unlink_empty}
-use Rattle.unlinking.specs.Asking.{CanUnlinkEmpty}
 use Rattle.edit.specs.Edits.{find, without, left, run_of, no_room, place_in, tier_of, on_the_spot, entry_in, stored_entry, store_image}
-use Rattle.edit.specs.Replaced.{old_of, without_old, placed_old, replaced_old, extended_old, Stores, Storable, Walks, Replaces, Extends}
+use Rattle.edit.specs.Replaced.{old_of, OldFits, without_old, placed_old, replaced_old, extended_old, Stores, Storable, Walks, Replaces, Extends}
 use Rattle.edit.proofs.Without.{without-sound, without-room, without-head}
-use Rattle.edit.proofs.Replacing.{sound-framed, sound-tiers, sound-lows, found-old, old-fits, without_old-is, old-tier}
+use Rattle.edit.proofs.Replacing.{sound-framed, sound-tiers, sound-lows, found-old, old-fits, without_old-is, touched-is, home-is, leaves-is, other-is}
 use Rattle.edit.proofs.Scanning.{scan-is}
 use Rattle.edit.proofs.Storing.{placed_image, fits-at, fits-free, placed-leaves}
 use Rattle.edit.proofs.Staying.{free_stays}
@@ -55,7 +58,7 @@ walk-asks {z} {img} {key} {value} w e =
           rw e
           (chunks-pos z.settings (length key) (length value) (omega (arith, w.key_fits.not_longer)) (omega (arith, w.value_fits.not_longer))
           w.sound.fits.valid);
-      old_ends = (old-fits z img w.sound key _ (found-old z img w.sound key)).range_ends;
+      old_ends = IfSome_then _ {P = OldFits z} (old-fits z img w.sound key _ (found-old z img w.sound key)) (λ o f. f.range_ends);
     }
 
 -- what the scan of the tiers that are left asks for, after the walk
@@ -91,7 +94,7 @@ module _ {z : Shape} {img key value : List ℕ} {n : ℕ} {p : EntryPlace} (w : 
   abbrev img₁ : List ℕ
   img₁ = without z img key
 
-  abbrev old : Old
+  abbrev old : Option Old
   old = p.old
 
   old-of : old ≡ old_of (find z img key)
@@ -124,14 +127,14 @@ module _ {z : Shape} {img key value : List ℕ} {n : ℕ} {p : EntryPlace} (w : 
     -- the slot is known in another tier than the old entry's, and there no slot was moved
     slot-known : KnownFor z img₁ t key p.slot
     slot-known j e =
-        let there : (j ≡ first_empty z img key t) × (t ≢ old.tier) = w.place_is.slot_is t c j f e in
-        there.0 ∙ sym (without-room z img sound key t (is-tier fits) (λ q. there.1 (q ∙ sym (old-tier z img sound key old old-of))))
+        let there : (j ≡ first_empty z img key t) × OtherTier old t = w.place_is.slot_is t c j f e in
+        there.0 ∙ sym (without-room z img sound key t (is-tier fits) (other-is z img sound key old old-of t (is-tier fits) there.1))
 
     -- the counters have followed
     placed_at : placed_old z img old t c key value ≡ placed_image z img key value
     unfolding placed_old place_in
     placed_at =
-        ap₂ (λ (x : List ℕ) (u : ℕ). settle z (place_at z x t c key value) (touched t u)) old-is (old-tier z img sound key old old-of)
+        ap₂ (λ (x us : List ℕ). settle z (place_at z x t c key value) us) old-is (touched-is z img sound key old old-of t)
         ∙ rw (← run_is, f)
 
     some-room : no_room z img key value ≡ false
@@ -145,13 +148,13 @@ module _ {z : Shape} {img key value : List ℕ} {n : ℕ} {p : EntryPlace} (w : 
           old_fits = old-fits z img sound key old old-of;
           places = rw old-is (can-place fits slot-known);
           leaves =
-              subst₂ (CanUnlinkEmpty z) (sym placed_at) (sym (old-tier z img sound key old old-of))
-              (placed-leaves z img key value w.storable w.key_bytes w.value_bytes some-room);
+              leaves-is z img sound key old old-of _
+              (rw placed_at (placed-leaves z img key value w.storable w.key_bytes w.value_bytes some-room));
         }
 
     pub run-stored : {y : List ℕ} → y ≡ replaced_old z img old t c key value → Stores Tight z img key value true y
     unfolding store_image stored_entry entry_in on_the_spot replaced_old
-    run-stored ey = (some-room, ey ∙ ap₂ (unlink_empty z) placed_at (old-tier z img sound key old old-of))
+    run-stored ey = (some-room, ey ∙ home-is z img sound key old old-of _ ∙ ap (λ (x : List ℕ). unlink_empty z x (tier_of (find z img key))) placed_at)
 
   -- ---- the first free tier takes it
 
@@ -172,7 +175,7 @@ module _ {z : Shape} {img key value : List ℕ} {n : ℕ} {p : EntryPlace} (w : 
           old_fits = old-fits z img sound key old old-of;
           places =
               rw (old-is, head-is, es)
-              (can-place (fits-free z img key value w.storable w.key_bytes w.value_bytes some-free) (λ j e. absurd (not_known j e)));
+              (can-place (fits-free z img key value w.storable w.key_bytes w.value_bytes some-free) (λ j e. absurd (none-some j e)));
           joins = rw (old-is, es) (record {
             follows = record {
               framed = sound-framed z img₁ sound₁;
@@ -193,7 +196,7 @@ module _ {z : Shape} {img key value : List ℕ} {n : ℕ} {p : EntryPlace} (w : 
         (touched (free_head z img₁) (tier_of (find z img key)))
     unfolding extended_old
     joined_at =
-        ap₂ (λ (x : List ℕ) (u : ℕ). settle z (place_at z (join z x s) head 0 key value) (touched head u)) old-is (old-tier z img sound key old old-of)
+        ap₂ (λ (x us : List ℕ). settle z (place_at z (join z x s) head 0 key value) us) old-is (touched-is z img sound key old old-of head)
         ∙ ap₂ (λ (q t : ℕ). settle z (place_at z (join z img₁ q) t 0 key value) (touched t (tier_of (find z img key)))) es head-is
 
     pub free-stored : {y : List ℕ} → y ≡ extended_old z img old s head key value → Stores Tight z img key value true y

@@ -5,6 +5,7 @@ use mathlib.Core.Path.{◌≡◌, refl, ap, sym, ◌∙◌, subst}
 use mathlib.Core.Logic.{◌≢◌}
 use mathlib.Core.Option.{Option, none, some}
 use native.Mathlib.Omega.{arith}
+use Rattle.std.specs.Prelude.{Option as Option_of_std, Some, None}
 use lib.ListN.{length, get_or}
 use Rattle.lists.specs.Lists.{total}
 use Rattle.lists.proofs.Totals.{total-at}
@@ -13,10 +14,9 @@ use Rattle.leb128.specs.Leb128.{encode}
 use Rattle.layout.specs.Tiers.{IsTier}
 use Rattle.layout.specs.Places.{chunk_at}
 use Rattle.chains.specs.Chains.{last_tier}
+use Rattle.entries.specs.declared.Entry.{Entry}
 use Rattle.entries.specs.declared.Live.{Live}
 use Rattle.entries.specs.Keys.{segment_of}
-use Rattle.entries.specs.declared.Stored.{Stored}
-use Rattle.entries.specs.declared.Stored.TheVariants.{Whole, Broken}
 use Rattle.entries.specs.Stored.{value_offset, stored, entry_of, key_of}
 use Rattle.entries.specs.Live.{chunk_of, entry_at, live}
 use Rattle.entries.specs.Pairs.{Pair, pair_of, pairs_of}
@@ -97,10 +97,10 @@ module _ {z : Shape} {img : List ℕ} {s t j : ℕ} {key value : List ℕ} (w : 
     empty-stays u is = room-same (slots_of z u) _ (start-lt w.sound.fits.valid _) m img (λ k h. rewrite-slots w u k is h)
 
   -- the record starts where it did if its length takes as many bytes as before
-  started : (r : Stored) → stored z img t (chunk_of z img t j) ≡ r → IsWhole r
+  started : (r : Option_of_std Entry) → stored z img t (chunk_of z img t j) ≡ r → IsWhole r
       → (entry_of r).valueAt ≡ chunk_at z t (chunk_of z img t j) + value_offset z.settings (entry_of r).keyLength (entry_of r).valueLength
-  started (Whole e) q h = (whole-sound z img t (chunk_of z img t j) e q).value_is
-  started Broken q h = absurd h
+  started (Some e) q h = (whole-sound z img t (chunk_of z img t j) e q).value_is
+  started None q h = absurd h
 
   pub offset-stays : length (encode (length value)) ≡ length (encode (entry_at z img t j).valueLength)
       → (entry_here z t (chunk_of z img t j) (length key) (length value)).valueAt ≡ (entry_at z img t j).valueAt

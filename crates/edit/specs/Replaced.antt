@@ -1,6 +1,6 @@
--- The entry that an edit removes, as the code carries it: tier 0 where there is none.
-use Rattle.std.specs.Prelude.{ℕ, ◌+◌, ◌≤◌, ◌<◌, List, ◌≡◌, ◌≢◌, Bool, true, false, eqb, length}
-use Rattle.std.proofs.Math.Option.{Option, none, some}
+-- The entry that an edit removes, if there is one, as the code carries it.
+use Rattle.std.specs.Prelude.{ℕ, ◌+◌, ◌≤◌, ◌<◌, List, ◌≡◌, Bool, true, false, eqb, length, Option, Some, None, option_map, IfSome}
+use Rattle.std.proofs.Math.Option.{Option as Maybe, none, some}
 use Rattle.layout.specs.declared.Shape.{Shape}
 use Rattle.layout.specs.Tiers.{IsTier}
 use Rattle.layout.specs.Frame.{Framed}
@@ -8,13 +8,10 @@ use Rattle.entries.specs.declared.Live.{Live}
 use Rattle.entries.specs.Keys.{KeyFits}
 use Rattle.entries.specs.Stored.{chunks_for, ValueFits}
 use Rattle.sound.specs.Sound.{SoundImage}
-use Rattle.counters.specs.Recount.{settle, touched}
+use Rattle.counters.specs.Recount.{settle, touched_with}
 use Rattle.removal.specs.Removal.{remove_at}
 use Rattle.placement.specs.declared.Old.{Old}
-use Rattle.placement.specs.declared.NewSlot.{NewSlot}
-use Rattle.placement.specs.declared.NewSlot.TheVariants.{Unknown}
 use Rattle.placement.specs.declared.walk.Walk.{Walk}
-use Rattle.placement.specs.OldEntry.{no_old}
 use Rattle.placement.specs.Asking.{CanPlace}
 use Rattle.placement.specs.Walking.{Walked}
 use Rattle.placement.specs.Placement.{place_at}
@@ -26,37 +23,51 @@ use Rattle.edit.specs.declared.Policy.{Policy}
 use Rattle.edit.specs.declared.Policy.TheVariants.{OnTheSpot, Tight}
 use Rattle.edit.specs.Edits.{no_room, store_image}
 
-unfoldable pub old_of : Option Live → Old
-old_of none = no_old
-old_of (some e) = record { tier = e.tier; slot = e.slot; chunk = e.chunk; chunks = e.chunks }
+-- a live entry, as the code carries it
+abbrev pub carried : Live → Old
+carried e = record { tier = e.tier; slot = e.slot; chunk = e.chunk; chunks = e.chunks }
+
+unfoldable pub old_of : Maybe Live → Option Old
+old_of none = None
+old_of (some e) = Some (carried e)
 
 -- the image without it
-unfoldable pub without_old : Shape → List ℕ → Old → List ℕ
-without_old z img old = elim (eqb old.tier 0) [ true ↦ img | false ↦ remove_at z img old.tier old.slot old.chunk old.chunks ]
+unfoldable pub without_old : Shape → List ℕ → Option Old → List ℕ
+without_old z img None = img
+without_old z img (Some o) = remove_at z img o.tier o.slot o.chunk o.chunks
+
+-- the tier that it leaves, if there is one; and the image with that tier gone home, if it is empty now
+abbrev pub old_tier : Option Old → Option ℕ
+old_tier old = option_map (λ o. o.tier) old
+
+unfoldable pub old_home : Shape → List ℕ → Option Old → List ℕ
+old_home z img None = img
+old_home z img (Some o) = unlink_empty z img o.tier
 
 -- after a store in tier t, from chunk c on; and with the tier that the entry left gone home, if it is empty now
-unfoldable pub placed_old : Shape → List ℕ → Old → ℕ → ℕ → List ℕ → List ℕ → List ℕ
-placed_old z img old t c key value = settle z (place_at z (without_old z img old) t c key value) (touched t old.tier)
+unfoldable pub placed_old : Shape → List ℕ → Option Old → ℕ → ℕ → List ℕ → List ℕ → List ℕ
+placed_old z img old t c key value = settle z (place_at z (without_old z img old) t c key value) (touched_with t (old_tier old))
 
-unfoldable pub replaced_old : Shape → List ℕ → Old → ℕ → ℕ → List ℕ → List ℕ → List ℕ
-replaced_old z img old t c key value = unlink_empty z (placed_old z img old t c key value) old.tier
+unfoldable pub replaced_old : Shape → List ℕ → Option Old → ℕ → ℕ → List ℕ → List ℕ → List ℕ
+replaced_old z img old t c key value = old_home z (placed_old z img old t c key value) old
 
 -- where the first free tier joins segment s's chain and takes it; the tier that the entry left has another one
-unfoldable pub extended_old : Shape → List ℕ → Old → ℕ → ℕ → List ℕ → List ℕ → List ℕ
-extended_old z img old s t key value = settle z (place_at z (join z (without_old z img old) s) t 0 key value) (touched t old.tier)
+unfoldable pub extended_old : Shape → List ℕ → Option Old → ℕ → ℕ → List ℕ → List ℕ → List ℕ
+extended_old z img old s t key value = settle z (place_at z (join z (without_old z img old) s) t 0 key value) (touched_with t (old_tier old))
 
--- whether an entry of n chunks takes its place: where there is none, it has 0 chunks
-abbrev pub old_on_the_spot : Policy → Old → ℕ → Bool
-old_on_the_spot Tight old n = false
-old_on_the_spot OnTheSpot old n = eqb old.chunks n
+-- it, where an entry of n chunks takes its place
+abbrev pub old_on_the_spot : Policy → Option Old → ℕ → Option Old
+old_on_the_spot Tight old n = None
+old_on_the_spot OnTheSpot None n = None
+old_on_the_spot OnTheSpot (Some o) n = elim (eqb o.chunks n) [ true ↦ Some o | false ↦ None ]
 
--- it stands in a tier, or there is none
+-- it stands in a tier
 pub record OldFits (z : Shape) (old : Old) : Type 0 where
-  pub tier_in : old.tier ≢ 0 → IsTier z old.tier
+  pub tier_in : IsTier z old.tier
   pub slot_in : old.slot < z.settings.slots
   pub range_ends : old.chunk + old.chunks ≤ z.settings.chunks
 
-abbrev pub is_there : Option Live → Bool
+abbrev pub is_there : Maybe Live → Bool
 is_there none = false
 is_there (some e) = true
 
@@ -78,14 +89,14 @@ pub record Walks (z : Shape) (img key value : List ℕ) (w : Walk) (n : ℕ) : T
   pub walked : Walked z img key n w
 
 -- what its two ends ask for, once the place is known
-pub record Replaces (z : Shape) (img : List ℕ) (old : Old) (t c : ℕ) (slot : NewSlot) (key value : List ℕ) : Type 0 where
+pub record Replaces (z : Shape) (img : List ℕ) (old : Option Old) (t c : ℕ) (slot : Option ℕ) (key value : List ℕ) : Type 0 where
   pub framed : Framed z (length img)
-  pub old_fits : OldFits z old
+  pub old_fits : IfSome old (OldFits z)
   pub places : CanPlace z (without_old z img old) t c slot key value
-  pub leaves : CanUnlinkEmpty z (placed_old z img old t c key value) old.tier
+  pub leaves : IfSome old (λ o. CanUnlinkEmpty z (placed_old z img old t c key value) o.tier)
 
-pub record Extends (z : Shape) (img : List ℕ) (old : Old) (s t : ℕ) (key value : List ℕ) : Type 0 where
+pub record Extends (z : Shape) (img : List ℕ) (old : Option Old) (s t : ℕ) (key value : List ℕ) : Type 0 where
   pub framed : Framed z (length img)
-  pub old_fits : OldFits z old
+  pub old_fits : IfSome old (OldFits z)
   pub joins : CanJoin z (without_old z img old) s
-  pub places : CanPlace z (join z (without_old z img old) s) t 0 Unknown key value
+  pub places : CanPlace z (join z (without_old z img old) s) t 0 None key value

@@ -5,3 +5,4 @@ pub mod Sizes
 pub mod Matching
 pub mod Whole
 pub mod LiveLists
+pub mod FullSlots

@@ -7,7 +7,7 @@ use mathlib.Core.Bool.{true, false}
 use native.Mathlib.Omega.{arith}
 use lib.ListN.{length, get_or}
 use lib.Seq.{ext_get_or}
-use Rattle.lists.specs.Cases.{lt-or, same_or}
+use Rattle.lists.specs.Cases.{lt-or}
 use Rattle.words.specs.Bytes.{Bytes, cut, same}
 use Rattle.words.proofs.Bytes.{length_cut, get_or-cut, same-eq, same_false}
 use Rattle.words.specs.Numbers.{le}
@@ -19,18 +19,6 @@ pub record Matching (l : List ℕ) (at n : ℕ) (key : List ℕ) (i : ℕ) : Typ
   pub long : n ≡ length key
   pub low : i ≤ n
   pub is : Agree l at key i
-
-module _ {l : List ℕ} {at n : ℕ} {key : List ℕ} where
-  pub match-starts : {i : ℕ} → n ≡ length key → i ≤ n → Agree l at key i → Matching l at n key i
-  match-starts e h a = record { long = e; low = h; is = a }
-
-  pub match-turns : {i : ℕ} → Matching l at n key i → i < n → get_or l (at + i) 0 ≡ get_or key i 0 → Matching l at n key (i + 1)
-  match-turns {i} m h e =
-      record {
-        long = m.long;
-        low = omega arith;
-        is = λ j k. ⊎_elim (λ (s : j ≡ i). rw s e) (λ (s : j ≢ i). m.is j (omega arith)) (same_or j i);
-      }
 
 -- ---- what the comparison answers
 

@@ -4,13 +4,13 @@ use mathlib.Core.Path.{◌≡◌, refl, ap, sym, ◌∙◌}
 use mathlib.Core.List.{List, ◌++◌}
 use mathlib.Core.Logic.{⊎_elim}
 use native.Mathlib.Omega.{arith}
+use Rattle.std.specs.Prelude.{Option, Some, None}
+use Rattle.std.proofs.lemmas.Option.{none-some, same_Some, some_pair_parts}
 use native.Mathlib.Nat.{mul-le-mul_right}
 use lib.ListN.{length, take, drop, length-take, length-append}
 use lib.Seq.{drop-drop}
 use Rattle.lists.specs.Cases.{lt-or}
 use Rattle.words.specs.Bytes.{cut}
-use Rattle.leb128.specs.declared.Decoded.{Decoded}
-use Rattle.leb128.specs.declared.Decoded.TheVariants.{Number, Refused}
 use Rattle.leb128.specs.Leb128.{encode, decode, largest_length, EncodedAt}
 use Rattle.leb128.proofs.Encode.{length-encode}
 use Rattle.leb128.proofs.Decode.{decode-end, decode-sound, decode-complete}
@@ -21,8 +21,6 @@ use Rattle.layout.specs.Tiers.{IsTier}
 use Rattle.layout.specs.Frame.{Framed}
 use Rattle.layout.proofs.Chunks.{chunk-at, chunk-add, chunk-rest, chunks-inside}
 use Rattle.entries.specs.declared.Entry.{Entry}
-use Rattle.entries.specs.declared.Stored.{Stored}
-use Rattle.entries.specs.declared.Stored.TheVariants.{Whole, Broken}
 use Rattle.entries.specs.Stored.{value_offset, entry_size, chunks_for, entry_bytes, after_value_length, after_key_length, up_to_chunks, stored, entry_of, key_of, value_of}
 use Rattle.entries.specs.Asking.{Lengths}
 use Rattle.entries.specs.Telling.{KeyPart}
@@ -31,25 +29,25 @@ use Rattle.words.proofs.Cuts.{drop-take, cut-take, cut-within, cut-front, cut-ba
 
 -- ---- the two lengths that are read
 
-abbrev Read : Decoded → ℕ → ℕ → Type 0
-Read d n next = d ≡ Number n next
+abbrev Read : Option (ℕ × ℕ) → ℕ → ℕ → Type 0
+Read d n next = d ≡ Some (n, next)
 
-after_value_length-whole : (at k : ℕ) (d : Decoded) (e : Entry) → after_value_length at k d ≡ Whole e
+after_value_length-whole : (at k : ℕ) (d : Option (ℕ × ℕ)) (e : Entry) → after_value_length at k d ≡ Some e
     → (e.keyAt ≡ at) × (e.keyLength ≡ k) × Read d e.valueLength e.valueAt
 unfolding after_value_length
-after_value_length-whole at k Refused e h = absurd (let z : ◌≡◌ {A = ℕ} 0 1 = cc in omega arith)
-after_value_length-whole at k (Number v next) e h =
-    let same : record { keyAt = at; keyLength = k; valueAt = next; valueLength = v } ≡ e = cc in
-    (ap (λ (x : Entry). x.keyAt) (sym same), ap (λ (x : Entry). x.keyLength) (sym same), ap (λ (x : Entry). Number x.valueLength x.valueAt) same)
+after_value_length-whole at k None e h = absurd (none-some e h)
+after_value_length-whole at k (Some (v, next)) e h =
+    let same : record { keyAt = at; keyLength = k; valueAt = next; valueLength = v } ≡ e = same_Some _ e h in
+    (ap (λ (x : Entry). x.keyAt) (sym same), ap (λ (x : Entry). x.keyLength) (sym same), ap (λ (x : Entry). Some (x.valueLength, x.valueAt)) same)
 
-after_key_length-whole : (bytes : List ℕ) (d : Decoded) (e : Entry) → after_key_length bytes d ≡ Whole e
+after_key_length-whole : (bytes : List ℕ) (d : Option (ℕ × ℕ)) (e : Entry) → after_key_length bytes d ≡ Some e
     → Read d e.keyLength e.keyAt × Read (decode bytes (e.keyAt + e.keyLength)) e.valueLength e.valueAt
 unfolding after_key_length
-after_key_length-whole bytes Refused e h = absurd (let z : ◌≡◌ {A = ℕ} 0 1 = cc in omega arith)
-after_key_length-whole bytes (Number k next) e h =
+after_key_length-whole bytes None e h = absurd (none-some e h)
+after_key_length-whole bytes (Some (k, next)) e h =
     let p : (e.keyAt ≡ next) × (e.keyLength ≡ k) × Read (decode bytes (next + k)) e.valueLength e.valueAt =
     after_value_length-whole next k (decode bytes (next + k)) e h in
-    (cc, rw (p.0, p.1) p.2)
+    (λ i. Some (sym p.1 i, sym p.0 i), rw (p.0, p.1) p.2)
 
 -- read by offsets that were computed
 pub decode-up_to_chunks : (z : Shape) (img : List ℕ) (t : ℕ) {end a b : ℕ} → end ≡ chunk_at z t z.settings.chunks → a ≡ b
@@ -62,19 +60,19 @@ module _ (z : Shape) (img : List ℕ) (t c : ℕ) where
   open z use {settings}
   open settings use {chunks, chunkSize}
 
-  pub stored-key-refused : decode (up_to_chunks z img t) (chunk_at z t c) ≡ Refused → stored z img t c ≡ Broken
+  pub stored-key-refused : decode (up_to_chunks z img t) (chunk_at z t c) ≡ None → stored z img t c ≡ None
   unfolding stored after_key_length
   stored-key-refused e = rw (e, stored)
 
-  pub stored-value-refused : {k next : ℕ} → decode (up_to_chunks z img t) (chunk_at z t c) ≡ Number k next
-      → decode (up_to_chunks z img t) (next + k) ≡ Refused
-      → stored z img t c ≡ Broken
+  pub stored-value-refused : {k next : ℕ} → decode (up_to_chunks z img t) (chunk_at z t c) ≡ Some (k, next)
+      → decode (up_to_chunks z img t) (next + k) ≡ None
+      → stored z img t c ≡ None
   unfolding stored after_key_length after_value_length
   stored-value-refused e f = rw (e, stored, f)
 
-  pub stored-both-read : {k next v after : ℕ} → decode (up_to_chunks z img t) (chunk_at z t c) ≡ Number k next
-      → decode (up_to_chunks z img t) (next + k) ≡ Number v after
-      → stored z img t c ≡ Whole (record { keyAt = next; keyLength = k; valueAt = after; valueLength = v })
+  pub stored-both-read : {k next v after : ℕ} → decode (up_to_chunks z img t) (chunk_at z t c) ≡ Some (k, next)
+      → decode (up_to_chunks z img t) (next + k) ≡ Some (v, after)
+      → stored z img t c ≡ Some (record { keyAt = next; keyLength = k; valueAt = after; valueLength = v })
   unfolding stored after_key_length after_value_length
   stored-both-read e f = rw (e, stored, f)
 
@@ -82,7 +80,7 @@ module _ (z : Shape) (img : List ℕ) (t c : ℕ) where
   length-up_to_chunks : length (up_to_chunks z img t) ≤ chunk_at z t chunks
   length-up_to_chunks = rw length-take (omega arith)
 
-  pub stored_past : chunks ≤ c → stored z img t c ≡ Broken
+  pub stored_past : chunks ≤ c → stored z img t c ≡ None
   stored_past h =
       stored-key-refused (decode-end (up_to_chunks z img t) (chunk_at z t c)
       (omega (arith, length-up_to_chunks, chunk-at z t c, chunk-at z t chunks, mul-le-mul_right chunkSize h)))
@@ -113,7 +111,7 @@ module _ (z : Shape) (img : List ℕ) (t c : ℕ) where
   in_chunks_lem at n next small after within form =
       record { small = small; form = cut-take img (chunk_at z t chunks) at (length (encode n)) (omega arith) ∙ form; after = after }
 
-  pub whole-sound : (e : Entry) → stored z img t c ≡ Whole e → WholeAt e
+  pub whole-sound : (e : Entry) → stored z img t c ≡ Some e → WholeAt e
   unfolding stored value_offset
   whole-sound e h =
       let p : Read (decode (up_to_chunks z img t) (chunk_at z t c)) e.keyLength e.keyAt
@@ -132,23 +130,20 @@ module _ (z : Shape) (img : List ℕ) (t c : ℕ) where
       }
 
   -- what the key's length alone gives, of an entry that can be read
-  module _ (e : Entry) (h : stored z img t c ≡ Whole e) where
-    key-read : decode (up_to_chunks z img t) (chunk_at z t c) ≡ Number e.keyLength e.keyAt
+  module _ (e : Entry) (h : stored z img t c ≡ Some e) where
+    pub key-read : decode (up_to_chunks z img t) (chunk_at z t c) ≡ Some (e.keyLength, e.keyAt)
     unfolding stored
     key-read = (after_key_length-whole (up_to_chunks z img t) (decode (up_to_chunks z img t) (chunk_at z t c)) e h).0
 
-    pub key-not-refused : decode (up_to_chunks z img t) (chunk_at z t c) ≡ Refused → ⊥
-    key-not-refused r = let same : Number e.keyLength e.keyAt ≡ Refused = sym key-read ∙ r in let z : ◌≡◌ {A = ℕ} 0 1 = cc in omega arith
-
-    pub key-part : {k next : ℕ} → decode (up_to_chunks z img t) (chunk_at z t c) ≡ Number k next
+    pub key-part : {k next : ℕ} → decode (up_to_chunks z img t) (chunk_at z t c) ≡ Some (k, next)
         → KeyPart z img t c (record { at = next; length = k })
     key-part {k} {next} r =
-        let same : Number k next ≡ Number e.keyLength e.keyAt = sym r ∙ key-read in
-        let p : k ≡ e.keyLength = cc in
-        let q : next ≡ e.keyAt = cc in
-        record { at_is = q ∙ ap (λ (x : Stored). (entry_of x).keyAt) (sym h); length_is = p ∙ ap (λ (x : Stored). (entry_of x).keyLength) (sym h) }
+        let p : (k ≡ e.keyLength) × (next ≡ e.keyAt) = some_pair_parts k e.keyLength next e.keyAt (sym r ∙ key-read) in
+        let at : Option Entry → ℕ = λ x. (entry_of x).keyAt in
+        let size : Option Entry → ℕ = λ x. (entry_of x).keyLength in
+        record { at_is = p.1 ∙ ap at (sym h); length_is = p.0 ∙ ap size (sym h) }
 
-  pub whole-complete : (e : Entry) → WholeAt e → stored z img t c ≡ Whole e
+  pub whole-complete : (e : Entry) → WholeAt e → stored z img t c ≡ Some e
   unfolding value_offset
   whole-complete e w =
       let after : e.valueAt ≡ e.keyAt + e.keyLength + length (encode e.valueLength) = omega (arith, w.value_is, w.key_is) in
@@ -157,15 +152,15 @@ module _ (z : Shape) (img : List ℕ) (t c : ℕ) where
       (decode-complete _ _ _ _ (in_chunks_lem (e.keyAt + e.keyLength) e.valueLength e.valueAt w.value_small after w.value_within w.value_form))
 
   -- the lengths are small, read or not
-  lengths-small : (s : Stored) → stored z img t c ≡ s → Lengths (entry_of s).keyLength (entry_of s).valueLength
-  lengths-small (Whole e) h = let w : WholeAt e = whole-sound e h in record { key_small = w.key_small; value_small = w.value_small }
-  lengths-small Broken h = omega arith
+  lengths-small : (s : Option Entry) → stored z img t c ≡ s → Lengths (entry_of s).keyLength (entry_of s).valueLength
+  lengths-small (Some e) h = let w : WholeAt e = whole-sound e h in record { key_small = w.key_small; value_small = w.value_small }
+  lengths-small None h = omega arith
 
   pub entry-small : Lengths (entry_of (stored z img t c)).keyLength (entry_of (stored z img t c)).valueLength
   entry-small = lengths-small (stored z img t c) refl
 
   -- where the value's length is looked for is a small number
-  pub key-end-small : {k next : ℕ} → Framed z (length img) → IsTier z t → decode (up_to_chunks z img t) (chunk_at z t c) ≡ Number k next
+  pub key-end-small : {k next : ℕ} → Framed z (length img) → IsTier z t → decode (up_to_chunks z img t) (chunk_at z t c) ≡ Some (k, next)
       → next + k ≤ 2 ^ 25
   key-end-small {k} {next} fr it h =
       let s : EncodedAt (up_to_chunks z img t) (chunk_at z t c) k next = decode-sound _ _ _ _ h in
@@ -207,11 +202,11 @@ decode-ext : (l l' : List ℕ) (at : ℕ) → drop at l ≡ drop at l' → decod
 unfolding decode
 decode-ext l l' at e = rw e
 
-after_key_length-ext : (l l' : List ℕ) (a : ℕ) → drop a l ≡ drop a l' → (d : Decoded) → decode l a ≡ d
+after_key_length-ext : (l l' : List ℕ) (a : ℕ) → drop a l ≡ drop a l' → (d : Option (ℕ × ℕ)) → decode l a ≡ d
     → after_key_length l d ≡ after_key_length l' d
 unfolding after_key_length
-after_key_length-ext l l' a e Refused h = refl
-after_key_length-ext l l' a e (Number k next) h =
+after_key_length-ext l l' a e None h = refl
+after_key_length-ext l l' a e (Some (k, next)) h =
     let i : ℕ = next + k - a in
     let there : a + i ≡ next + k = omega (arith, (decode-sound l a k next h).after) in
     let later : drop (a + i) l ≡ drop (a + i) l' = sym (drop-drop i a l) ∙ ap (drop i) e ∙ drop-drop i a l' in
@@ -289,7 +284,7 @@ module _ (z : Shape) (img : List ℕ) (t c : ℕ) (key value : List ℕ) where
   pub stored-whole : length key ≤ largest_length → length value ≤ largest_length
       → cut img (chunk_at z t c) (length (entry_bytes settings key value)) ≡ entry_bytes settings key value
       → chunk_at z t c + length (entry_bytes settings key value) ≤ chunk_at z t chunks
-      → (stored z img t c ≡ Whole whole) × (key_of img whole ≡ key) × (value_of img whole ≡ value)
+      → (stored z img t c ≡ Some whole) × (key_of img whole ≡ key) × (value_of img whole ≡ value)
   unfolding entry_bytes value_offset
   stored-whole hk hv bytes room =
       let a : ℕ = chunk_at z t c in

@@ -1,12 +1,11 @@
 -- What the functions over lengths and slots ask for. The definitions serve contracts alone.
-use Rattle.std.specs.Prelude.{ℕ, ◌+◌, ◌*◌, ◌^◌, ◌≤◌, ◌<◌, List, ◌≡◌, length, get_or}
+use Rattle.std.specs.Prelude.{ℕ, ◌+◌, ◌*◌, ◌^◌, ◌≤◌, ◌<◌, List, ◌≡◌, length, get_or, Some}
 use Rattle.settings.specs.declared.Settings.{Settings}
 use Rattle.settings.specs.Rules.{Valid}
 use Rattle.leb128.specs.Leb128.{largest_length}
 use Rattle.layout.specs.declared.Shape.{Shape}
 use Rattle.layout.specs.FramedTier.{FramedTier}
 use Rattle.entries.specs.declared.Entry.{Entry}
-use Rattle.entries.specs.declared.Stored.TheVariants.{Whole}
 use Rattle.entries.specs.Stored.{stored}
 
 -- the first n bytes at an offset are those of a key
@@ -38,4 +37,4 @@ pub record SlotParts (st : Settings) (lookup chunk : ℕ) : Type 0 where
 pub record WholeIn (z : Shape) (img : List ℕ) (t c : ℕ) : Type 0 where
   pub tier : FramedTier z img t
   pub entry : Entry
-  pub whole : stored z img t c ≡ Whole entry
+  pub whole : stored z img t c ≡ Some entry

@@ -1,20 +1,14 @@
 -- A stored entry: key length, key, value length, value. Offsets are in the image.
-use Rattle.std.specs.Prelude.{ℕ, ◌+◌, ◌≤◌, List, ◌++◌, ◌≡◌, length, take}
+use Rattle.std.specs.Prelude.{ℕ, ◌+◌, ◌≤◌, List, ◌++◌, ◌≡◌, length, take, Option, Some, None}
 use Rattle.std.proofs.Math.Decide.{dec_le}
 use Rattle.lists.specs.Decide.{rule}
 use Rattle.lists.specs.Lists.{ceil}
 use Rattle.words.specs.Bytes.{cut}
-use Rattle.leb128.specs.declared.Decoded.{Decoded}
-use Rattle.leb128.specs.declared.Decoded.TheVariants.{Number, Refused}
 use Rattle.leb128.specs.Leb128.{encode, decode}
 use Rattle.settings.specs.declared.Settings.{Settings}
 use Rattle.layout.specs.declared.Shape.{Shape}
 use Rattle.layout.specs.Places.{chunk_at}
 use Rattle.entries.specs.declared.Entry.{Entry}
-use Rattle.entries.specs.declared.Stored.{Stored}
-use Rattle.entries.specs.declared.Stored.TheVariants.{Whole, Broken}
-use Rattle.entries.specs.declared.ValueSize.{ValueSize}
-use Rattle.entries.specs.declared.ValueSize.TheVariants as size
 
 -- ---- an entry's size, by the lengths of its key and value
 
@@ -43,9 +37,9 @@ value_fits? st k v =
     yes (record { not_longer = a; not_too_many = b })
 
 -- a value that fits, with the chunks that its entry covers, or one that does not
-abbrev pub SizeSays : Settings → ℕ → ℕ → ValueSize → Type 0
-SizeSays st k v (size.Fits n) = ValueFits st k v × (n ≡ chunks_for st k v)
-SizeSays st k v size.Broken = ValueFits st k v → ⊥
+abbrev pub SizeSays : Settings → ℕ → ℕ → Option ℕ → Type 0
+SizeSays st k v (Some n) = ValueFits st k v × (n ≡ chunks_for st k v)
+SizeSays st k v None = ValueFits st k v → ⊥
 
 -- its bytes
 unfoldable pub entry_bytes : Settings → List ℕ → List ℕ → List ℕ
@@ -53,25 +47,25 @@ entry_bytes st key value = encode (length key) ++ key ++ encode (length value) +
 
 -- ---- an entry as it stands at the first byte of a chunk; nothing past the tier's chunks is read
 
-unfoldable pub after_value_length : ℕ → ℕ → Decoded → Stored
-after_value_length at k Refused = Broken
-after_value_length at k (Number v next) = Whole (record { keyAt = at; keyLength = k; valueAt = next; valueLength = v })
+unfoldable pub after_value_length : ℕ → ℕ → Option (ℕ × ℕ) → Option Entry
+after_value_length at k None = None
+after_value_length at k (Some (v, next)) = Some (record { keyAt = at; keyLength = k; valueAt = next; valueLength = v })
 
-unfoldable pub after_key_length : List ℕ → Decoded → Stored
-after_key_length bytes Refused = Broken
-after_key_length bytes (Number k next) = after_value_length next k (decode bytes (next + k))
+unfoldable pub after_key_length : List ℕ → Option (ℕ × ℕ) → Option Entry
+after_key_length bytes None = None
+after_key_length bytes (Some (k, next)) = after_value_length next k (decode bytes (next + k))
 
 -- the image up to the end of tier t's chunks
 abbrev pub up_to_chunks : Shape → List ℕ → ℕ → List ℕ
 up_to_chunks z img t = take (chunk_at z t z.settings.chunks) img
 
-unfoldable pub stored : Shape → List ℕ → ℕ → ℕ → Stored
+unfoldable pub stored : Shape → List ℕ → ℕ → ℕ → Option Entry
 stored z img t c = after_key_length (up_to_chunks z img t) (decode (up_to_chunks z img t) (chunk_at z t c))
 
 -- the entry, with zeros where it cannot be read
-abbrev pub entry_of : Stored → Entry
-entry_of (Whole e) = e
-entry_of Broken = record { keyAt = 0; keyLength = 0; valueAt = 0; valueLength = 0 }
+abbrev pub entry_of : Option Entry → Entry
+entry_of (Some e) = e
+entry_of None = record { keyAt = 0; keyLength = 0; valueAt = 0; valueLength = 0 }
 
 -- the bytes of its key and of its value
 abbrev pub key_of : List ℕ → Entry → List ℕ

@@ -27,7 +27,7 @@ fn log2(x: usize) -> usize
     requires { PowerOfTwo x }
     ensures { (x ≡ 2 ^ result) × (result < 64) }
 {
-    63 - u64::leading_zeros(x as u64) as usize
+    x.ilog2() as usize
 }
 
 // The remainder by a power of two.

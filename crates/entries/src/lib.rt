@@ -27,26 +27,12 @@ pub struct Part {
 }
 
 // Where a stored entry's key and value stand in the image, and how long they are.
-#[derive(Clone, Copy)]
+#[derive(Clone, Copy, Default)]
 pub struct Entry {
     pub keyAt: usize,
     pub keyLength: usize,
     pub valueAt: usize,
     pub valueLength: usize,
-}
-
-// What stands at a chunk: an entry whose lengths could be read, or not.
-#[derive(Clone, Copy)]
-pub enum Stored {
-    Whole(Entry),
-    Broken,
-}
-
-// A value that fits, with the chunks that its entry covers, or one that does not.
-#[derive(Clone, Copy)]
-pub enum ValueSize {
-    Fits(usize),
-    Broken,
 }
 
 // A live entry: its segment, tier, slot, first chunk, the chunks that it covers, and the stored entry.
@@ -64,13 +50,7 @@ pub struct Live {
 pub fn key_fits(st: Settings, key: &[u8]) -> bool
     ensures { Decides result (KeyFits st key.now) }
 {
-    if key.len() < 1 {
-        return false;
-    }
-    if LONGEST_KEY < key.len() {
-        return false;
-    }
-    true
+    !key.is_empty() && key.len() <= LONGEST_KEY
 }
 
 // Where the value starts, after the entry's first byte, by the lengths of key and value.
@@ -91,20 +71,20 @@ pub fn chunks_for(st: Settings, k: usize, v: usize) -> usize
     if size <= st.chunkSize {
         return 1;
     }
-    (size + st.chunkSize - 1) / st.chunkSize
+    size.div_ceil(st.chunkSize)
 }
 
-// Whether a value of v bytes may stand under a key of k bytes.
-pub fn value_fits(st: Settings, k: usize, v: usize) -> ValueSize
+// The chunks that an entry with a value of v bytes under a key of k bytes covers; nothing where the value does not fit.
+pub fn value_fits(st: Settings, k: usize, v: usize) -> Option<usize>
     requires { Valid st × (k ≤ largest_length) }
     ensures { SizeSays st k v result }
 {
     if LONGEST_VALUE < v {
-        return ValueSize::Broken;
+        return None;
     }
     let n = chunks_for(st, k, v);
     if st.mostChunks < n {
-        return ValueSize::Broken;
+        return None;
     }
-    ValueSize::Fits(n)
+    Some(n)
 }

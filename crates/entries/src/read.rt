@@ -4,25 +4,22 @@ ghost use Rattle.lists.specs.Decide.{Decides};
 ghost use Rattle.words.specs.Bytes.{cut, same};
 ghost use Rattle.layout.specs.FramedTier.{FramedTier, FramedSlot};
 ghost use Rattle.entries.specs.Stored.{stored as stored_stored, entry_of as stored_entry_of};
-ghost use Rattle.entries.specs.Live.{chunk_of, entry_at, live_at as live_live_at};
+ghost use Rattle.entries.specs.Live.{full_slots as live_full_slots, chunk_of, entry_at, live_at as live_live_at};
 ghost use Rattle.entries.specs.Asking.{Agree, Eights, WholeIn};
 ghost use Rattle.entries.specs.Telling.{KeyPart};
 
-use super::{Entry, Live, Part, Stored};
+use super::{Entry, Live, Part};
 use layout::Shape;
-use leb128::Decoded;
 
 // Whether n eights of bytes at an offset are those that a key begins with.
 fn same_eights(img: &[u8], at: usize, n: usize, key: &[u8]) -> bool
     requires { Eights img.now at key.now n }
     ensures { Decides result (Agree img.now at key.now (8 * n)) }
 {
-    let mut k = 0;
-    while k < n {
+    for k in 0..n {
         if words::read_le8(img, at + 8 * k) != words::read_le8(key, 8 * k) {
             return false;
         }
-        k += 1;
     }
     true
 }
@@ -38,33 +35,27 @@ pub fn same_key(img: &[u8], at: usize, n: usize, key: &[u8]) -> bool
     if !same_eights(img, at, n / 8, key) {
         return false;
     }
-    let mut i = 8 * (n / 8);
-    while i < n {
+    for i in 8 * (n / 8)..n {
         if img[at + i] != key[i] {
             return false;
         }
-        i += 1;
     }
     true
 }
 
-// What stands at chunk c of a tier. Nothing past the tier's chunks is read.
-pub fn stored(z: Shape, img: &[u8], t: usize, c: usize) -> Stored
+// The entry at chunk c of a tier; nothing where its lengths cannot be read. Nothing past the tier's chunks is read.
+pub fn stored(z: Shape, img: &[u8], t: usize, c: usize) -> Option<Entry>
     requires { FramedTier z img.now t }
     ensures { result ≡ stored_stored z img.now t c }
 {
     if z.settings.chunks <= c {
-        return Stored::Broken;
+        return None;
     }
     let end = layout::chunk_at(z, t, z.settings.chunks);
     let bytes = &img[..end];
-    let Decoded::Number(k, at) = leb128::read(bytes, layout::chunk_at(z, t, c)) else {
-        return Stored::Broken;
-    };
-    let Decoded::Number(v, after) = leb128::read(bytes, at + k) else {
-        return Stored::Broken;
-    };
-    Stored::Whole(Entry {
+    let (k, at) = leb128::read(bytes, layout::chunk_at(z, t, c))?;
+    let (v, after) = leb128::read(bytes, at + k)?;
+    Some(Entry {
         keyAt: at,
         keyLength: k,
         valueAt: after,
@@ -72,31 +63,21 @@ pub fn stored(z: Shape, img: &[u8], t: usize, c: usize) -> Stored
     })
 }
 
-// Where the key of the entry at chunk c begins and how long it is, for an entry that can be read: its second length is not.
+// Where the key of the entry at chunk c begins and how long it is, of an entry that can be read; the value's length is not read.
 pub fn key_part(z: Shape, img: &[u8], t: usize, c: usize) -> Part
     requires { WholeIn z img.now t c }
     ensures { KeyPart z img.now t c result }
 {
     let end = layout::chunk_at(z, t, z.settings.chunks);
-    let Decoded::Number(k, at) = leb128::read(&img[..end], layout::chunk_at(z, t, c)) else {
-        return Part { at: 0, length: 0 };
-    };
-    Part { at: at, length: k }
+    let (k, at) = leb128::read(&img[..end], layout::chunk_at(z, t, c)).unwrap();
+    Part { at, length: k }
 }
 
 // The entry, with zeros where it cannot be read.
-fn entry_of(s: Stored) -> Entry
+fn entry_of(s: Option<Entry>) -> Entry
     ensures { result ≡ stored_entry_of s }
 {
-    match s {
-        Stored::Whole(e) => e,
-        Stored::Broken => Entry {
-            keyAt: 0,
-            keyLength: 0,
-            valueAt: 0,
-            valueLength: 0,
-        },
-    }
+    s.unwrap_or_default()
 }
 
 // The first chunk that slot j of a tier names.
@@ -130,4 +111,18 @@ pub fn live_at(z: Shape, img: &[u8], s: usize, t: usize, j: usize) -> Live
         chunks: super::chunks_for(z.settings, e.keyLength, e.valueLength),
         entry: e,
     }
+}
+
+// How many slots of a tier are full.
+pub fn full_slots(z: Shape, img: &[u8], t: usize) -> usize
+    requires { FramedTier z img.now t }
+    ensures { result ≡ length (live_full_slots z img.now t) }
+{
+    let mut n = 0;
+    for j in 0..z.settings.slots {
+        if layout::read::slot(z, img, t, j) != 0 {
+            n += 1;
+        }
+    }
+    n
 }

@@ -1,11 +1,10 @@
 // Elements that are looked up in a table and then put into it, one after the other: whether any two are the same. For the crates above,
-// which have the table and the elements: what becomes of an element, with definitions and laws for any table and any elements.
+// which have the table and the elements: why they stop, with definitions and laws for any table and any elements.
 #![tactic(auto)]
 
-// What became of an element: an earlier one is the same, or nothing more may be put into the table, or so many may still be put in.
+// Why no more elements are met: an earlier one is the same, or nothing more may be put into the table.
 #[derive(Clone, Copy)]
-pub enum Met {
+pub enum Stopped {
     Again,
     Full,
-    Fresh(usize),
 }

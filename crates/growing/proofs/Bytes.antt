@@ -7,7 +7,8 @@ use lib.ListN.{get_or}
 use Rattle.lists.specs.Quantify.{every-cons, every-none}
 use Rattle.words.specs.Bytes.{Apart}
 use Rattle.layout.specs.declared.Shape.{Shape}
-use Rattle.layout.specs.Places.{bulkCount, firstFree, storeSize, slot, counter, free, Place, global, tier, at, wide}
+use Rattle.layout.specs.declared.Global.TheVariants.{BulkCount as bulkCount, FirstFree as firstFree, StoreSize as storeSize}
+use Rattle.layout.specs.Places.{slot, counter, free, Place, global, tier, at, wide}
 use Rattle.layout.proofs.Places.{get_or-puts-out}
 use Rattle.growing.specs.Growing.{grown, new_tier, new_tiers, grow_image, IsNew, GrowWrites}
 use Rattle.growing.proofs.Emptying.{Untouched, get_or-empty_tier-out}

@@ -18,7 +18,11 @@ use Rattle.links.proofs.Runs.{run-from, run-same}
 use Rattle.links.proofs.Edits.{linked-block}
 use Rattle.layout.specs.declared.Shape.{Shape}
 use Rattle.layout.specs.Tiers.{tiers, IsTier, IsExtra}
-use Rattle.layout.specs.Places.{Counter, nextTier, next, previous, segment, order, usedTiers, global, tier, counter, shared_place, get}
+use Rattle.layout.specs.declared.Global.TheVariants.{UsedTiers as usedTiers}
+use Rattle.layout.specs.declared.Header.TheVariants.{NextTier as nextTier}
+use Rattle.layout.specs.declared.Counter.{Counter}
+use Rattle.layout.specs.declared.Counter.TheVariants.{Next as next, Previous as previous, Segment as segment, Order as order}
+use Rattle.layout.specs.Places.{global, tier, counter, shared_place, get}
 use Rattle.layout.proofs.Places.{kind, shared_in, shared-extra, shared-kind}
 use Rattle.chains.specs.Chains.{next_of, chain, free_head, free_chain, chained_extra, Once, ChainsFit}
 use Rattle.chains.proofs.Tiers.{free-tiers}

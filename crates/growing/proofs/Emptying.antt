@@ -12,7 +12,9 @@ use Rattle.words.specs.Bytes.{Apart}
 use Rattle.words.specs.Bits.{bit_of}
 use Rattle.layout.specs.declared.Shape.{Shape}
 use Rattle.layout.specs.Tiers.{IsTier}
-use Rattle.layout.specs.Places.{Part, slot, counter, free, Counter, next, previous, low, segment, order, count, counter_no, Place, tier, part_wide, at, wide, In, get, mark, Write, ◌≔◌, puts}
+use Rattle.layout.specs.declared.Counter.{Counter}
+use Rattle.layout.specs.declared.Counter.TheVariants.{Next as next, Previous as previous, Low as low, Segment as segment, Order as order, Count as count}
+use Rattle.layout.specs.Places.{Part, slot, counter, free, counter_no, Place, tier, part_wide, at, wide, In, get, mark, Write, ◌≔◌, puts}
 use Rattle.layout.specs.Frame.{Image}
 use Rattle.layout.proofs.Places.{written, length-put, image-put, get_other, length-puts, image-puts, get-puts-other, get-puts-here, get_or-put-out, get_or-puts-out, by_kind, counter-lt}
 use Rattle.layout.proofs.Marks.{NoFree, mark-get, length-put_marks, image-put_marks, get_or-put_marks-out, get-put_marks-other, mark-put_marks-out, mark-put_marks_in}

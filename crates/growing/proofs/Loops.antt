@@ -7,7 +7,9 @@ use native.Mathlib.Numerals.{add-one}
 use lib.ListN.{length}
 use Rattle.layout.specs.declared.Shape.{Shape}
 use Rattle.layout.specs.Tiers.{tiers, store_end, IsTier, IsExtra}
-use Rattle.layout.specs.Places.{bulkCount, firstFree, storeSize, slot, counter, next, previous, low, segment, order, count, global, tier, put, puts, put_marks, next_place, low_place, count_place}
+use Rattle.layout.specs.declared.Global.TheVariants.{BulkCount as bulkCount, FirstFree as firstFree, StoreSize as storeSize}
+use Rattle.layout.specs.declared.Counter.TheVariants.{Next as next, Previous as previous, Low as low, Segment as segment, Order as order, Count as count}
+use Rattle.layout.specs.Places.{slot, counter, global, tier, put, puts, put_marks, next_place, low_place, count_place}
 use Rattle.layout.specs.Frame.{Framed, most_tiers}
 use Rattle.layout.proofs.Places.{shared-extra}
 use Rattle.chains.specs.Chains.{free_head}
@@ -26,24 +28,22 @@ framed_as a e fr = subst₂ Framed (sym a) (sym e) fr
 
 module _ (z : Shape) (img : List ℕ) (t : ℕ) where
   pub record EmptyingSlots (img' : List ℕ) (j : ℕ) : Type 0 where
-    pub low : j ≤ z.settings.slots
     pub is : img' ≡ empty_slots z img t j
 
   pub empty_slots-starts : EmptyingSlots img 0
   unfolding empty_slots
-  empty_slots-starts = record { low = omega arith; is = refl }
+  empty_slots-starts = record { is = refl }
 
   module _ {img' : List ℕ} {j : ℕ} (w : EmptyingSlots img' j) where
     pub empty_slots-long : length img' ≡ length img
     empty_slots-long = ap length w.is ∙ length-empty_slots z img t j
 
-    pub empty_slots-turns : {img'' : List ℕ} → j < z.settings.slots → img'' ≡ put z img' (tier t (slot j)) 0 → EmptyingSlots img'' (j + 1)
+    pub empty_slots-turns : {img'' : List ℕ} → img'' ≡ put z img' (tier t (slot j)) 0 → EmptyingSlots img'' (j + 1)
     unfolding empty_slots
-    empty_slots-turns h e =
-        record { low = omega arith; is = rw add-one (e ∙ ap (λ (x : List ℕ). put z x (tier t (slot j)) 0) w.is) }
+    empty_slots-turns e = record { is = rw add-one (e ∙ ap (λ (x : List ℕ). put z x (tier t (slot j)) 0) w.is) }
 
-    pub empty_slots-ends : z.settings.slots ≤ j → img' ≡ empty_slots z img t z.settings.slots
-    empty_slots-ends h = let e : j ≡ z.settings.slots = omega (arith, w.low) in w.is ∙ ap (empty_slots z img t) e
+    pub empty_slots-ends : j ≡ z.settings.slots → img' ≡ empty_slots z img t z.settings.slots
+    empty_slots-ends e = w.is ∙ ap (empty_slots z img t) e
 
 -- ---- one tier: its slots, its six counters, its marks
 
@@ -79,19 +79,18 @@ module _ (z : Shape) (img : List ℕ) where
     pub count_is : count ≡ tiers z
 
   pub record MakingTiers (img' : List ℕ) (k : ℕ) : Type 0 where
-    pub low : k ≤ z.settings.bulkTiers
     pub is : img' ≡ new_tiers z img k
 
   pub new_tiers-starts : MakingTiers img 0
   unfolding new_tiers
-  new_tiers-starts = record { low = omega arith; is = refl }
+  new_tiers-starts = record { is = refl }
 
   module _ {img' : List ℕ} {k : ℕ} (w : MakingTiers img' k) where
     pub new_tiers-long : length img' ≡ length img
     new_tiers-long = ap length w.is ∙ length-new_tiers z img k
 
-    pub new_tiers-ends : z.settings.bulkTiers ≤ k → img' ≡ new_tiers z img z.settings.bulkTiers
-    new_tiers-ends h = let e : k ≡ z.settings.bulkTiers = omega (arith, w.low) in w.is ∙ ap (new_tiers z img) e
+    pub new_tiers-ends : k ≡ z.settings.bulkTiers → img' ≡ new_tiers z img z.settings.bulkTiers
+    new_tiers-ends e = w.is ∙ ap (new_tiers z img) e
 
     module _ {more : Shape} {last head count : ℕ} (r : BulkRead more last head count) (h : k < z.settings.bulkTiers) where
       last-is : last ≡ tiers (grown z)
@@ -120,7 +119,7 @@ module _ (z : Shape) (img : List ℕ) where
           let d : head ≡ free_head z img = r.head_is ∙ ap (λ (y : Shape). free_head y img) r.more_is ∙ get-grown z img (global firstFree) in
           let t : count + 1 + k ≡ new_tier z k = new_is in
           let i : img' ≡ new_tiers z img k = w.is in
-          record { low = omega arith; is = rw add-one (cc) }
+          record { is = rw add-one (cc) }
 
   -- ---- the three numbers of the global state
 

@@ -11,7 +11,9 @@ use Rattle.lists.specs.Quantify.{every-cons, every-none}
 use Rattle.words.specs.Bits.{bit_of}
 use Rattle.layout.specs.declared.Shape.{Shape}
 use Rattle.layout.specs.Tiers.{tiers, store_end, IsTier, IsExtra}
-use Rattle.layout.specs.Places.{bulkCount, firstFree, storeSize, Part, slot, counter, free, byte, next, Place, global, header, tier, wide, In, get, mark, ◌≔◌}
+use Rattle.layout.specs.declared.Global.TheVariants.{BulkCount as bulkCount, FirstFree as firstFree, StoreSize as storeSize}
+use Rattle.layout.specs.declared.Counter.TheVariants.{Next as next}
+use Rattle.layout.specs.Places.{Part, slot, counter, free, byte, Place, global, header, tier, wide, In, get, mark, ◌≔◌}
 use Rattle.layout.specs.Frame.{Image}
 use Rattle.layout.proofs.Places.{kind, length-puts, image-puts, get-lt, get-puts-other, get-puts-here, by_kind}
 use Rattle.layout.proofs.Marks.{mark-get}

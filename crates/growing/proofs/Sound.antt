@@ -12,7 +12,8 @@ use Rattle.lists.proofs.Lists.{span_in}
 use Rattle.lists.proofs.SameLists.{same_map, same_flat_map}
 use Rattle.layout.specs.declared.Shape.{Shape}
 use Rattle.layout.specs.Tiers.{tiers, IsTier}
-use Rattle.layout.specs.Places.{headersOffset, global, mark}
+use Rattle.layout.specs.declared.Global.TheVariants.{HeadersOffset as headersOffset}
+use Rattle.layout.specs.Places.{global, mark}
 use Rattle.layout.specs.Frame.{shape_of, FrameFits, Image}
 use Rattle.layout.proofs.Frames.{headers-get, bulks-get}
 use Rattle.chains.specs.Chains.{chain, last_tier, free_head, free_chain}

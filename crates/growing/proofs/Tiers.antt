@@ -7,7 +7,11 @@ use native.Mathlib.Omega.{arith}
 use Rattle.settings.specs.Rules.{Valid}
 use Rattle.layout.specs.declared.Shape.{Shape}
 use Rattle.layout.specs.Tiers.{mains, bulks_at, extra_at, tier_at, IsTier}
-use Rattle.layout.specs.Places.{Header, Counter, entry_count, lowestFree, low, count, header_no, counter_no, slot, free, byte, tier, shared_place, part_at, part_wide, at, wide, get, put, free_list_at, mark, chunk_at}
+use Rattle.layout.specs.declared.Header.{Header}
+use Rattle.layout.specs.declared.Header.TheVariants.{EntryCount as entry_count, LowestFree as lowestFree}
+use Rattle.layout.specs.declared.Counter.{Counter}
+use Rattle.layout.specs.declared.Counter.TheVariants.{Low as low, Count as count}
+use Rattle.layout.specs.Places.{header_no, counter_no, slot, free, byte, tier, shared_place, part_at, part_wide, at, wide, get, put, free_list_at, mark, chunk_at}
 use Rattle.layout.proofs.Places.{kind, shared_in, shared-kind}
 use Rattle.entries.specs.declared.Entry.{Entry}
 use Rattle.entries.specs.Stored.{stored, key_of, value_of}

@@ -2,7 +2,9 @@
 use Rattle.std.specs.Prelude.{ℕ, zero, suc, ◌+◌, ◌*◌, ◌≤◌, ◌<◌, List, [], ◌∷◌, Bool, true, false, ◌||◌, eqb, ltb}
 use Rattle.layout.specs.declared.Shape.{Shape}
 use Rattle.layout.specs.Tiers.{tiers, store_end}
-use Rattle.layout.specs.Places.{Place, put, ◌≔◌, puts, put_marks, global, bulkCount, firstFree, usedTiers, headersOffset, storeSize, header, tier, slot, counter, free, byte, next, previous, low, segment, order, count}
+use Rattle.layout.specs.declared.Global.TheVariants.{BulkCount as bulkCount, FirstFree as firstFree, UsedTiers as usedTiers, HeadersOffset as headersOffset, StoreSize as storeSize}
+use Rattle.layout.specs.declared.Counter.TheVariants.{Next as next, Previous as previous, Low as low, Segment as segment, Order as order, Count as count}
+use Rattle.layout.specs.Places.{Place, put, ◌≔◌, puts, put_marks, global, header, tier, slot, counter, free, byte}
 use Rattle.layout.specs.Frame.{most_tiers}
 use Rattle.chains.specs.Chains.{free_head}
 

@@ -8,18 +8,16 @@ ghost use Rattle.layout.specs.FramedTier.{FramedTier};
 ghost use Rattle.growing.specs.Growing.{grown as growing_grown, no_bulk as growing_no_bulk, empty_slots as growing_empty_slots, empty_tier as growing_empty_tier, after_new as growing_after_new, new_tiers as growing_new_tiers, grow_image};
 ghost use Rattle.growing.specs.Asking.{FramedExtra};
 
-use layout::Shape;
+use layout::{Counter, Global, Header, Shape};
 
 // The shape with one bulk more.
 fn grown(z: Shape) -> Shape
     requires { Framed z largest }
     ensures { result ≡ growing_grown z }
 {
-    let st = z.settings;
     Shape {
-        settings: st,
-        headers: z.headers,
         bulks: z.bulks + 1,
+        ..z
     }
 }
 
@@ -40,10 +38,8 @@ fn empty_slots(z: Shape, img: &mut [u8], t: usize)
     requires { FramedTier z img.old t }
     ensures { img.new ≡ growing_empty_slots z img.old t z.settings.slots }
 {
-    let mut j = 0;
-    while j < z.settings.slots {
+    for j in 0..z.settings.slots {
         layout::write::put_slot(z, img, t, j, 0);
-        j += 1;
     }
 }
 
@@ -53,12 +49,12 @@ fn empty_tier(z: Shape, img: &mut [u8], t: usize, after: u64)
     ensures { img.new ≡ growing_empty_tier z img.old t after }
 {
     empty_slots(z, img, t);
-    layout::write::put_next(z, img, t, after);
-    layout::write::put_previous(z, img, t, 0);
-    layout::write::put_low(z, img, t, 0);
-    layout::write::put_segment(z, img, t, 0);
-    layout::write::put_order(z, img, t, 0);
-    layout::write::put_count(z, img, t, 0);
+    layout::write::put_shared(z, img, t, Header::NextTier, after);
+    layout::write::put_counter(z, img, t, Counter::Previous, 0);
+    layout::write::put_shared(z, img, t, Header::LowestFree, 0);
+    layout::write::put_counter(z, img, t, Counter::Segment, 0);
+    layout::write::put_counter(z, img, t, Counter::Order, 0);
+    layout::write::put_shared(z, img, t, Header::EntryCount, 0);
     layout::write::put_marks(z, img, t, 0, z.settings.chunks, 0);
 }
 
@@ -80,13 +76,11 @@ fn new_tiers(z: Shape, img: &mut [u8])
 {
     let more = grown(z);
     let last = layout::tier_count(more);
-    let head = layout::read::first_free(more, img);
+    let head = layout::read::global(more, img, Global::FirstFree);
     let first = layout::tier_count(z) + 1;
-    let mut k = 0;
-    while k < z.settings.bulkTiers {
+    for k in 0..z.settings.bulkTiers {
         let t = first + k;
         empty_tier(more, img, t, after_new(t, last, head));
-        k += 1;
     }
 }
 
@@ -97,7 +91,12 @@ pub fn grow(z: Shape, img: &mut [u8])
 {
     let more = grown(z);
     new_tiers(z, img);
-    layout::write::put_bulk_count(more, img, more.bulks as u64);
-    layout::write::put_first_free(more, img, layout::tier_count(z) as u64 + 1);
-    layout::write::put_store_size(more, img, layout::store_end(more) as u64);
+    layout::write::put_global(more, img, Global::BulkCount, more.bulks as u64);
+    layout::write::put_global(
+        more,
+        img,
+        Global::FirstFree,
+        layout::tier_count(z) as u64 + 1,
+    );
+    layout::write::put_global(more, img, Global::StoreSize, layout::store_end(more) as u64);
 }

@@ -22,8 +22,7 @@ use Rattle.entries.specs.declared.Live.{Live}
 use Rattle.entries.specs.Live.{slot_at, full_slots, live_at, live_in, live_of, live}
 use Rattle.search.specs.Search.{ChainTiers}
 use Rattle.image.specs.declared.cursor.LiveCursor.{LiveCursor}
-use Rattle.image.specs.declared.cursor.Step.{Step}
-use Rattle.image.specs.declared.cursor.Step.TheVariants.{At}
+use Rattle.std.specs.Prelude.{Option, Some}
 use Rattle.image.specs.Cursor.{start_of, full_from, live_from, live_since, ahead, rest, InChain, Begins, Steps}
 use Rattle.image.specs.Moving.{OnFull, Moves, InTier, Settled}
 
@@ -255,5 +254,6 @@ module _ (z : Shape) (img : List ℕ) where
   rest-none d e = rw e (drop-nil d.skip)
 
   -- what a caller has from a step that gave an entry
-  pub step-at : {es : List Live} {r : Step} {e : Live} {d : LiveCursor} → Steps z img es r → r ≡ At e d → InChain z img d × (es ≡ e ∷ rest z img d)
+  pub step-at : {es : List Live} {r : Option (Live × LiveCursor)} {e : Live} {d : LiveCursor} → Steps z img es r → r ≡ Some (e, d)
+      → InChain z img d × (es ≡ e ∷ rest z img d)
   step-at {es} s p = subst (Steps z img es) p s

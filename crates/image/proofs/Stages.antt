@@ -4,16 +4,15 @@ use mathlib.Core.List.{List}
 use mathlib.Core.Path.{◌≡◌, refl, ap, sym, ◌∙◌}
 use native.Mathlib.Omega.{arith}
 use lib.ListN.{length}
+use Rattle.std.specs.Prelude.{Some, None, Result, Ok, Err}
 use Rattle.lists.specs.Decide.{choose}
 use Rattle.lists.proofs.Decides.{choose_no, choose_yes}
 use Rattle.settings.specs.declared.Settings.{Settings}
 use Rattle.settings.specs.Rules.{Valid}
 use Rattle.layout.specs.declared.Shape.{Shape}
-use Rattle.layout.specs.declared.Frame.TheVariants.{Fits}
-use Rattle.layout.specs.declared.Frame.TheVariants as frame
 use Rattle.layout.specs.Frame.{shape_of, frame_fits?, frame_of, Framed}
 use Rattle.layout.proofs.Frames.{frame-fits, frame-only, frame-framed, Fitting}
-use Rattle.chains.specs.declared.Chains.TheVariants as chains
+use Rattle.std.proofs.lemmas.Option.{some_pair_parts}
 use Rattle.chains.specs.Chains.{chained, free_chain, ChainsFit, chains_fit?, chains_of}
 use Rattle.chains.proofs.Answer.{chains-fit, chains-only}
 use Rattle.chains.proofs.Tiers.{chain-tiers}
@@ -21,13 +20,11 @@ use Rattle.entries.specs.Live.{live}
 use Rattle.search.specs.Search.{ChainTiers}
 use Rattle.search.specs.Rules.{EntriesFit, entries_fit?}
 use Rattle.chunks.specs.Chunks.{ChunksFit, chunks_fit?, marked_chunks}
-use Rattle.contents.specs.declared.Contents.{Contents}
-use Rattle.contents.specs.declared.Contents.TheVariants.{Fit, BadChunks, BadEntries}
+use Rattle.contents.specs.declared.ContentsError.{ContentsError}
+use Rattle.contents.specs.declared.ContentsError.TheVariants.{Chunks, Entries}
 use Rattle.contents.specs.Contents.{contents_of}
 use Rattle.image.specs.declared.Stage.TheVariants as stage
-use Rattle.image.specs.declared.Examined.{Examined}
-use Rattle.image.specs.declared.Examined.TheVariants.{Ready, Refused}
-use Rattle.image.specs.Check.{counts_of, after_chunks, after_entries, after_chains, after_frame}
+use Rattle.image.specs.Check.{Examined, stage_of_contents, counts_of, after_chunks, after_entries, after_chains, after_frame}
 
 -- ---- as the code has it: what each call answered
 
@@ -36,14 +33,14 @@ module _ (st : Settings) (img : List ℕ) where
   abbrev pub target : Examined
   target = after_frame (shape_of st img) img (frame_fits? (shape_of st img) img)
 
-  pub frame_refused : frame_of st img ≡ frame.Broken → Refused stage.Frame ≡ target
+  pub frame_refused : frame_of st img ≡ None → Err stage.Frame ≡ target
   unfolding after_frame
   frame_refused e =
       sym
       (choose_no (frame_fits? (shape_of st img) img) _ _
-      (λ f. let g : Fits (shape_of st img) ≡ frame.Broken = sym (frame-fits st img f) ∙ e in let q : ◌≡◌ {A = ℕ} 0 1 = cc in omega arith))
+      (λ f. let g : Some (shape_of st img) ≡ None = sym (frame-fits st img f) ∙ e in let q : ◌≡◌ {A = ℕ} 0 1 = cc in omega arith))
 
-  module _ (v : Valid st) (z : Shape) (e : frame_of st img ≡ Fits z) where
+  module _ (v : Valid st) (z : Shape) (e : frame_of st img ≡ Some z) where
     fitting : Fitting st img z
     fitting = frame-only st img z e
 
@@ -54,17 +51,17 @@ module _ (st : Settings) (img : List ℕ) where
     unfolding after_frame
     at-chains = let is : z ≡ shape_of st img = fitting.is in rw (← is) (sym (choose_yes (frame_fits? z img) _ _ fitting.fits))
 
-    pub chains-refused : chains_of z img ≡ chains.Broken → Refused stage.Chains ≡ target
+    pub chains-refused : chains_of z img ≡ None → Err stage.Chains ≡ target
     unfolding after_chains
     chains-refused c =
         sym
         (choose_no (chains_fit? z img) _ _
         (λ f.
-        let g : chains.Fit (length (chained z img)) (length (free_chain z img)) ≡ chains.Broken = sym (chains-fit z img f) ∙ c in
+        let g : Some (length (chained z img), length (free_chain z img)) ≡ None = sym (chains-fit z img f) ∙ c in
         let q : ◌≡◌ {A = ℕ} 0 1 = cc in omega arith))
         ∙ at-chains
 
-    module _ (m n : ℕ) (c : chains_of z img ≡ chains.Fit m n) where
+    module _ (m n : ℕ) (c : chains_of z img ≡ Some (m, n)) where
       pub chains-here : ChainsFit z img
       chains-here = chains-only z img m n c
 
@@ -77,24 +74,21 @@ module _ (st : Settings) (img : List ℕ) where
 
       -- ---- what the tiers hold says what is examined
 
-      abbrev seen : Contents → Examined
-      seen BadEntries = Refused stage.Entries
-      seen BadChunks = Refused stage.Chunks
-      seen (Fit a b) = Ready z (record { entries = a; chunks = b; tiers = m; free = n })
+      abbrev seen : Result (ℕ × ℕ) ContentsError → Examined
+      seen (Err e) = Err (stage_of_contents e)
+      seen (Ok (a, b)) = Ok (z, record { entries = a; chunks = b; tiers = m; free = n })
 
       seen-both : (d : Dec (EntriesFit z img)) (e : Dec (ChunksFit z img))
-          → seen (choose d (λ _. BadEntries) λ _. choose e (λ _. BadChunks) λ _. Fit (length (live z img)) (marked_chunks z img))
-          ≡ choose d (λ _. Refused stage.Entries) (λ _. after_chunks z img e)
+          → seen (choose d (λ _. Err Entries) λ _. choose e (λ _. Err Chunks) λ _. Ok (length (live z img), marked_chunks z img))
+          ≡ choose d (λ _. Err stage.Entries) (λ _. after_chunks z img e)
       unfolding choose after_chunks counts_of
       seen-both (no _) e = refl
       seen-both (yes _) (no _) = refl
       seen-both (yes _) (yes _) =
-          let q : chains.Fit (length (chained z img)) (length (free_chain z img)) ≡ chains.Fit m n = sym (chains-fit z img chains-here) ∙ c in
-          let em : length (chained z img) ≡ m = cc in
-          let en : length (free_chain z img) ≡ n = cc in
-          λ i. Ready z (record { entries = length (live z img); chunks = marked_chunks z img; tiers = sym em i; free = sym en i })
+          let q : (length (chained z img) ≡ m) × (length (free_chain z img) ≡ n) = some_pair_parts _ m _ n (sym (chains-fit z img chains-here) ∙ c) in
+          λ i. Ok (z, record { entries = length (live z img); chunks = marked_chunks z img; tiers = sym q.0 i; free = sym q.1 i })
 
       -- with the equation that the answer is taken by
-      pub examined : (r : Contents) → r ≡ contents_of z img → (x : Contents) → r ≡ x → seen x ≡ target
+      pub examined : (r : Result (ℕ × ℕ) ContentsError) → r ≡ contents_of z img → (x : Result (ℕ × ℕ) ContentsError) → r ≡ x → seen x ≡ target
       unfolding contents_of after_entries
       examined r is x e = ap seen (sym e ∙ is) ∙ seen-both (entries_fit? z img) (chunks_fit? z img) ∙ at-entries

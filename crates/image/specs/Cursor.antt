@@ -1,5 +1,5 @@
 -- A cursor over the live entries: those that are left from it on, and what a step answers.
-use Rattle.std.specs.Prelude.{ℕ, ◌+◌, ◌-◌, ◌<◌, ◌≡◌, not, eqb, drop}
+use Rattle.std.specs.Prelude.{ℕ, ◌+◌, ◌-◌, ◌<◌, ◌≡◌, not, eqb, drop, Option, Some, None}
 use mathlib.Core.List.{List, [], ◌∷◌, ◌++◌, map, flat_map}
 use Rattle.lists.specs.Lists.{span, those}
 use Rattle.lists.specs.Quantify.{Every}
@@ -9,8 +9,6 @@ use Rattle.chains.specs.Chains.{follow}
 use Rattle.entries.specs.declared.Live.{Live}
 use Rattle.entries.specs.Live.{slot_at, live_at, live_in, live_of, live}
 use Rattle.image.specs.declared.cursor.LiveCursor.{LiveCursor}
-use Rattle.image.specs.declared.cursor.Step.{Step}
-use Rattle.image.specs.declared.cursor.Step.TheVariants.{At, End}
 
 -- before the entries of segment s, with n to pass over
 abbrev pub start_of : Shape → ℕ → ℕ → LiveCursor
@@ -55,6 +53,6 @@ module _ (z : Shape) (img : List ℕ) where
     pub rest_is : rest c ≡ live z img
 
   -- of the entries that are left, the first, and a cursor before the others; or none is left
-  abbrev pub Steps : List Live → Step → Type 0
-  Steps es (At e c) = InChain c × (es ≡ e ∷ rest c)
-  Steps es End = es ≡ []
+  abbrev pub Steps : List Live → Option (Live × LiveCursor) → Type 0
+  Steps es (Some (e, c)) = InChain c × (es ≡ e ∷ rest c)
+  Steps es None = es ≡ []

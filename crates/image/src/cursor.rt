@@ -8,7 +8,7 @@ ghost use Rattle.image.specs.Cursor.{InChain, start_of, rest, Begins, Steps};
 ghost use Rattle.image.specs.Moving.{OnFull, Moves, InTier, Settled, CanLook, CanMove};
 
 use entries::Live;
-use layout::Shape;
+use layout::{Header, Shape};
 
 // A place among the live entries: a slot of a tier in a segment's chain. Of the chain at most `left` tiers are still met, this
 // one with them, so that a walk ends. The next `skip` entries are passed over: of those only the slots are read.
@@ -19,13 +19,6 @@ pub struct LiveCursor {
     pub left: usize,
     pub slot: usize,
     pub skip: usize,
-}
-
-// The next live entry and a cursor after it, or that none is left.
-#[derive(Clone, Copy)]
-pub enum Step {
-    At(Live, LiveCursor),
-    End,
 }
 
 impl LiveCursor {
@@ -57,6 +50,7 @@ impl LiveCursor {
         ensures { InTier z img.now self result × (result.slot < z.settings.slots → OnFull z img.now result) }
     {
         let mut c = self;
+        // A `for` would be no plainer: the slot is a field of the cursor, which is handed back.
         while c.slot < z.settings.slots {
             if layout::read::slot(z, img, c.tier, c.slot) == 0 {
                 c.slot += 1;
@@ -77,6 +71,7 @@ impl LiveCursor {
         ensures { Moves z img.now self result × (result.segment ≡ self.segment) × (result.left ≢ 0 → OnFull z img.now result) }
     {
         let mut c = self;
+        // A `for` would be no plainer: how many are left is a field of the cursor, which is handed back.
         while c.left != 0 {
             if c.tier == 0 {
                 c.left = 0;
@@ -86,7 +81,7 @@ impl LiveCursor {
             if c.slot < z.settings.slots {
                 return c;
             }
-            c.tier = layout::read::next_of(z, img, c.tier) as usize;
+            c.tier = layout::read::shared(z, img, c.tier, Header::NextTier) as usize;
             c.left -= 1;
             c.slot = 0;
         }
@@ -119,13 +114,15 @@ impl LiveCursor {
         entries::read::live_at(z, img, self.segment, self.tier, self.slot)
     }
 
-    pub fn step(self, z: Shape, img: &[u8]) -> Step
+    // The next live entry and a cursor after it, where one is left.
+    // By value, and no Iterator: docs/GUARANTEES.md names `first` and `step` and what they promise.
+    pub fn step(self, z: Shape, img: &[u8]) -> Option<(Live, LiveCursor)>
         requires { CanMove z img.now self }
         ensures { Steps z img.now (rest z img.now self) result }
     {
         let c = self.settled(z, img);
         if c.left == 0 {
-            return Step::End;
+            return None;
         }
         let after = LiveCursor {
             segment: c.segment,
@@ -134,6 +131,6 @@ impl LiveCursor {
             slot: c.slot + 1,
             skip: 0,
         };
-        Step::At(c.entry(z, img), after)
+        Some((c.entry(z, img), after))
     }
 }

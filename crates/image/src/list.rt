@@ -5,30 +5,27 @@ ghost use Rattle.entries.specs.Live.{live};
 ghost use Rattle.search.specs.Search.{ChainTiers};
 ghost use Rattle.image.specs.List.{pick, entry as list_entry};
 
+use super::Stage;
 use super::cursor::LiveCursor;
-use super::{Examined, Listed, Nth};
+use entries::Live;
 use layout::Shape;
 
-pub fn nth(z: Shape, img: &[u8], n: usize) -> Nth
+// The n-th live entry, or as an error how many more it takes after them, as in `pick` of the specs.
+pub fn nth(z: Shape, img: &[u8], n: usize) -> Result<Live, usize>
     requires { Framed z (length img.now) × ChainTiers z img.now }
     ensures { result ≡ pick (live z img.now) n }
 {
     let c = LiveCursor::start(z, 0, n).settled(z, img);
     if c.left == 0 {
-        return Nth::After(c.skip);
+        return Err(c.skip);
     }
-    Nth::At(c.entry(z, img))
+    Ok(c.entry(z, img))
 }
 
-// The n-th live entry, n from 0.
-pub fn entry(block: &[u8], img: &[u8], n: usize) -> Listed
+// The n-th live entry, n from 0, where there are so many.
+pub fn entry(block: &[u8], img: &[u8], n: usize) -> Result<Option<Live>, Stage>
     ensures { result ≡ list_entry block.now img.now n }
 {
-    match super::examine(block, img) {
-        Examined::Refused(stage) => Listed::Refused(stage),
-        Examined::Ready(z, _) => match nth(z, img, n) {
-            Nth::At(e) => Listed::Row(e),
-            Nth::After(_) => Listed::Past,
-        },
-    }
+    let (z, _) = super::examine(block, img)?;
+    Ok(nth(z, img, n).ok())
 }

@@ -7,20 +7,29 @@ use crate::Stage;
 use entries::Live;
 
 // The number of a refusal.
+impl From<Stage> for u32 {
+    ghost from_gives = { λ stage number. number ≡ check_stage_number stage };
+
+    fn from(stage: Stage) -> u32 {
+        match stage {
+            Stage::Block => 2,
+            Stage::Field => 3,
+            Stage::Frame => 4,
+            Stage::Chains => 5,
+            Stage::Entries => 6,
+            Stage::Chunks => 7,
+            Stage::Key => 8,
+            Stage::Value => 9,
+            Stage::Walk => 18,
+        }
+    }
+}
+
+// The same by a name of its own, which docs/TRACE.md has.
 pub fn stage_number(stage: Stage) -> u32
     ensures { result ≡ check_stage_number stage }
 {
-    match stage {
-        Stage::Block => 2,
-        Stage::Field => 3,
-        Stage::Frame => 4,
-        Stage::Chains => 5,
-        Stage::Entries => 6,
-        Stage::Chunks => 7,
-        Stage::Key => 8,
-        Stage::Value => 9,
-        Stage::Walk => 18,
-    }
+    u32::from(stage)
 }
 
 // The seven numbers of an entry's line.

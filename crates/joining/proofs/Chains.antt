@@ -12,7 +12,7 @@ use Rattle.links.proofs.Runs.{run-from}
 use Rattle.links.proofs.Edits.{linked-one, linked-append, linked-rest}
 use Rattle.layout.specs.declared.Shape.{Shape}
 use Rattle.layout.specs.Tiers.{tiers, IsTier}
-use Rattle.layout.specs.Places.{previous, segment, order}
+use Rattle.layout.specs.declared.Counter.TheVariants.{Previous as previous, Segment as segment, Order as order}
 use Rattle.chains.specs.Chains.{next_of, follow, end_of, chain, free_head, free_chain, ChainFits, ChainsFit, last_tier}
 use Rattle.chains.proofs.Tiers.{chain-tiers, free-tiers}
 use Rattle.chains.proofs.Linked.{linked-chain, chain-linked, free-linked, linked-ends}

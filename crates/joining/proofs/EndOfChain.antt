@@ -1,7 +1,7 @@
 -- The loop to the end of a segment's chain: the last tier that it has met.
-use Prim.Native.Nat.{ℕ, suc, ◌+◌, ◌≤◌, ◌<◌}
+use Prim.Native.Nat.{ℕ, suc, ◌+◌, ◌<◌}
 use mathlib.Core.List.{List, [], ◌∷◌, ◌++◌}
-use mathlib.Core.Path.{◌≡◌, refl, sym, ◌∙◌, ap}
+use mathlib.Core.Path.{◌≡◌, refl, sym, ◌∙◌, ap, subst}
 use mathlib.Core.Logic.{◌≢◌}
 use native.Mathlib.Omega.{arith}
 use lib.ListN.{length, get_or, length-append}
@@ -36,8 +36,8 @@ module _ (z : Shape) (img : List ℕ) (s : ℕ) where
     pub ending-ends : t ≡ 0 → EndsAt z img s last k
     ending-ends e = ended (chain-ends z img s w.along e)
 
-    pub ending-out : most ≤ k → EndsAt z img s last k
-    ending-out h = ended (chain-out z img s w.along h)
+    pub ending-out : k ≡ most → EndsAt z img s last most
+    ending-out e = subst (EndsAt z img s last) e (ended (chain-out z img s w.along (omega arith)))
 
     module _ (h : k < most) (ne : t ≢ 0) where
       pub ending-tier : IsTier z t

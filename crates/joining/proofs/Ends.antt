@@ -11,7 +11,8 @@ use Rattle.links.proofs.Follow.{follow-more, length-follow}
 use Rattle.links.proofs.Edits.{linked-rest}
 use Rattle.layout.specs.declared.Shape.{Shape}
 use Rattle.layout.specs.Tiers.{tiers, IsTier, IsExtra}
-use Rattle.layout.specs.Places.{get, global, usedTiers}
+use Rattle.layout.specs.declared.Global.TheVariants.{UsedTiers as usedTiers}
+use Rattle.layout.specs.Places.{get, global}
 use Rattle.layout.specs.Frame.{Image}
 use Rattle.chains.specs.Chains.{next_of, follow, chain, free_head, free_chain, chained_extra, ChainsFit, last_tier}
 use Rattle.chains.proofs.Segments.{segments-le, chain-some, last-in}

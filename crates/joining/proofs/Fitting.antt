@@ -13,7 +13,7 @@ use Rattle.lists.specs.Quantify.{Below, Every}
 use Rattle.lists.proofs.Lists.{how_many-append, member}
 use Rattle.layout.specs.declared.Shape.{Shape}
 use Rattle.layout.specs.Tiers.{IsTier, IsExtra}
-use Rattle.layout.specs.Places.{previous, segment, order}
+use Rattle.layout.specs.declared.Counter.TheVariants.{Previous as previous, Segment as segment, Order as order}
 use Rattle.chains.specs.Chains.{chain, free_head, free_chain, chained, chained_extra, Once, StandsAt, ChainFits, ChainsFit, last_tier}
 use Rattle.chains.proofs.Tiers.{chain-tiers}
 use Rattle.chains.proofs.Segments.{chain-some, last-met}

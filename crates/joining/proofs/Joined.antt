@@ -11,7 +11,8 @@ use Rattle.lists.specs.Lists.{total}
 use Rattle.lists.specs.Quantify.{Below, Every}
 use Rattle.layout.specs.declared.Shape.{Shape}
 use Rattle.layout.specs.Tiers.{IsTier, IsExtra}
-use Rattle.layout.specs.Places.{bulkCount, headersOffset, storeSize, mark}
+use Rattle.layout.specs.declared.Global.TheVariants.{BulkCount as bulkCount, HeadersOffset as headersOffset, StoreSize as storeSize}
+use Rattle.layout.specs.Places.{mark}
 use Rattle.layout.proofs.Frames.{shape_same, fits-same}
 use Rattle.chains.specs.Chains.{chain, free_head, free_chain, last_tier}
 use Rattle.entries.specs.Live.{slot_at, full_slots}

@@ -7,7 +7,12 @@ use native.Mathlib.Omega.{arith}
 use Rattle.lists.specs.Quantify.{every-cons, every-none}
 use Rattle.layout.specs.declared.Shape.{Shape}
 use Rattle.layout.specs.Tiers.{IsTier}
-use Rattle.layout.specs.Places.{Header, Counter, nextTier, next, previous, segment, order, Global, firstFree, usedTiers}
+use Rattle.layout.specs.declared.Global.{Global}
+use Rattle.layout.specs.declared.Global.TheVariants.{FirstFree as firstFree, UsedTiers as usedTiers}
+use Rattle.layout.specs.declared.Header.{Header}
+use Rattle.layout.specs.declared.Header.TheVariants.{NextTier as nextTier}
+use Rattle.layout.specs.declared.Counter.{Counter}
+use Rattle.layout.specs.declared.Counter.TheVariants.{Next as next, Previous as previous, Segment as segment, Order as order}
 use Rattle.layout.specs.Places.{global_no, header_no, counter_no, Place, global, tier, slot, counter, free, byte, In, get, shared_place, next_place, Write, ◌≔◌, puts}
 use Rattle.layout.specs.Frame.{Image}
 use Rattle.layout.proofs.Places.{global-lt, get-puts-other, length-puts, kind, by_kind, shared_in, shared-kind, shared-never, shared-tiers}

@@ -1,20 +1,15 @@
 -- The seven writes of `join`, one after the other.
 use Prim.Native.Nat.{ℕ, suc, ◌+◌}
 use mathlib.Core.List.{List}
-use mathlib.Core.Path.{◌≡◌, subst, sym, ap, ◌∙◌}
+use mathlib.Core.Path.{◌≡◌}
 use native.Mathlib.Omega.{arith}
 use lib.ListN.{length}
 use Rattle.layout.specs.declared.Shape.{Shape}
-use Rattle.layout.specs.Places.{Place, get, put, puts, global, firstFree, usedTiers, tier, counter, previous, segment, order, next_place}
-use Rattle.layout.specs.Frame.{Framed}
-use Rattle.layout.proofs.Places.{length-put}
+use Rattle.layout.specs.declared.Global.TheVariants.{FirstFree as firstFree, UsedTiers as usedTiers}
+use Rattle.layout.specs.declared.Counter.TheVariants.{Previous as previous, Segment as segment, Order as order}
+use Rattle.layout.specs.Places.{get, put, puts, global, tier, counter, next_place}
 use Rattle.chains.specs.Chains.{chain, next_of, free_head, last_tier}
 use Rattle.joining.specs.Joining.{join}
-
--- a write keeps the image's length
-pub framed-put : {z : Shape} {img' : List ℕ} (img : List ℕ) (p : Place) (v : ℕ) → Framed z (length img) → img' ≡ put z img p v
-    → Framed z (length img')
-framed-put {z} img p v fr e = subst (λ (n : ℕ). Framed z n) (sym (ap length e ∙ length-put z img p v)) fr
 
 module _ (z : Shape) (img : List ℕ) (s : ℕ) where
   -- what is read before the first write

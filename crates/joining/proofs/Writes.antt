@@ -7,7 +7,12 @@ use native.Mathlib.Omega.{arith}
 use lib.ListN.{length}
 use Rattle.layout.specs.declared.Shape.{Shape}
 use Rattle.layout.specs.Tiers.{IsTier}
-use Rattle.layout.specs.Places.{Counter, entry_count, lowestFree, nextTier, next, previous, low, segment, order, count, Global, firstFree, usedTiers, global_no, counter_no, Place, global, tier, counter, wide, part_wide, get, next_place, ◌≔◌, puts}
+use Rattle.layout.specs.declared.Global.{Global}
+use Rattle.layout.specs.declared.Global.TheVariants.{FirstFree as firstFree, UsedTiers as usedTiers}
+use Rattle.layout.specs.declared.Header.TheVariants.{EntryCount as entry_count, LowestFree as lowestFree, NextTier as nextTier}
+use Rattle.layout.specs.declared.Counter.{Counter}
+use Rattle.layout.specs.declared.Counter.TheVariants.{Next as next, Previous as previous, Low as low, Segment as segment, Order as order, Count as count}
+use Rattle.layout.specs.Places.{global_no, counter_no, Place, global, tier, counter, wide, part_wide, get, next_place, ◌≔◌, puts}
 use Rattle.layout.specs.Frame.{Image}
 use Rattle.layout.proofs.Places.{Spares, spare, spare-none, get-puts-here, image-puts, length-puts, kind, by_kind, shared_in, shared-kind, shared-never, shared-tiers, shared-wide}
 use Rattle.chains.specs.Chains.{next_of, free_head}

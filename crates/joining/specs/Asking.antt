@@ -4,7 +4,8 @@ use Rattle.lists.specs.Quantify.{Every}
 use Rattle.layout.specs.declared.Shape.{Shape}
 use Rattle.layout.specs.Tiers.{IsTier}
 use Rattle.layout.specs.Frame.{Framed, most_tiers}
-use Rattle.layout.specs.Places.{get, global, usedTiers}
+use Rattle.layout.specs.declared.Global.TheVariants.{UsedTiers as usedTiers}
+use Rattle.layout.specs.Places.{get, global}
 use Rattle.chains.specs.Chains.{chain, free_head, last_tier}
 
 -- segment s's chain ends with tier last and has n tiers

@@ -1,7 +1,9 @@
 -- A free tier joins the end of a segment's chain, with next 0 and with previous, segment and order filled; the global fields follow.
 use Rattle.std.specs.Prelude.{ℕ, suc, List, [], ◌∷◌, length}
 use Rattle.layout.specs.declared.Shape.{Shape}
-use Rattle.layout.specs.Places.{get, ◌≔◌, puts, global, firstFree, usedTiers, tier, counter, previous, segment, order, next_place}
+use Rattle.layout.specs.declared.Global.TheVariants.{FirstFree as firstFree, UsedTiers as usedTiers}
+use Rattle.layout.specs.declared.Counter.TheVariants.{Previous as previous, Segment as segment, Order as order}
+use Rattle.layout.specs.Places.{get, ◌≔◌, puts, global, tier, counter, next_place}
 use Rattle.chains.specs.Chains.{chain, last_tier, next_of, free_head}
 
 module _ (z : Shape) (img : List ℕ) where

@@ -5,7 +5,7 @@ ghost use Rattle.std.specs.Prelude.{◌≡◌};
 ghost use Rattle.joining.specs.Joining.{join as joining_join};
 ghost use Rattle.joining.specs.Asking.{EndsAt, CanFollow, CanJoin};
 
-use layout::Shape;
+use layout::{Counter, Global, Header, Shape};
 
 // The last tier of a chain, and how many tiers it has.
 #[derive(Clone, Copy)]
@@ -22,22 +22,14 @@ fn end_of_chain(z: Shape, img: &[u8], s: usize) -> End
     let most = layout::tier_count(z);
     let mut last = 0;
     let mut t = s + 1;
-    let mut k = 0;
-    while k < most {
+    for k in 0..most {
         if t == 0 {
-            return End {
-                last: last,
-                length: k,
-            };
+            return End { last, length: k };
         }
         last = t;
-        t = layout::read::next_of(z, img, t) as usize;
-        k += 1;
+        t = layout::read::shared(z, img, t, Header::NextTier) as usize;
     }
-    End {
-        last: last,
-        length: k,
-    }
+    End { last, length: most }
 }
 
 // The first free tier joins segment s's chain. All is read before the first write.
@@ -45,16 +37,16 @@ pub fn join(z: Shape, img: &mut [u8], s: usize)
     requires { CanJoin z img.old s }
     ensures { img.new ≡ joining_join z img.old s }
 {
-    let free = layout::read::first_free(z, img);
+    let free = layout::read::global(z, img, Global::FirstFree);
     let t = free as usize;
-    let next = layout::read::next_of(z, img, t);
-    let used = layout::read::used_tiers(z, img);
+    let next = layout::read::shared(z, img, t, Header::NextTier);
+    let used = layout::read::global(z, img, Global::UsedTiers);
     let end = end_of_chain(z, img, s);
-    layout::write::put_next(z, img, end.last, free);
-    layout::write::put_first_free(z, img, next);
-    layout::write::put_used_tiers(z, img, used + 1);
-    layout::write::put_next(z, img, t, 0);
-    layout::write::put_previous(z, img, t, end.last as u64);
-    layout::write::put_segment(z, img, t, s as u64);
-    layout::write::put_order(z, img, t, end.length as u64);
+    layout::write::put_shared(z, img, end.last, Header::NextTier, free);
+    layout::write::put_global(z, img, Global::FirstFree, next);
+    layout::write::put_global(z, img, Global::UsedTiers, used + 1);
+    layout::write::put_shared(z, img, t, Header::NextTier, 0);
+    layout::write::put_counter(z, img, t, Counter::Previous, end.last as u64);
+    layout::write::put_counter(z, img, t, Counter::Segment, s as u64);
+    layout::write::put_counter(z, img, t, Counter::Order, end.length as u64);
 }

@@ -10,7 +10,13 @@ use Rattle.words.specs.Bytes.{Apart}
 use Rattle.lists.specs.Cases.{lt-or, same_or}
 use Rattle.layout.specs.declared.Shape.{Shape}
 use Rattle.layout.specs.Tiers.{mains, store_end, tier_at}
-use Rattle.layout.specs.Places.{Global, bulkCount, firstFree, usedTiers, headersOffset, storeSize, Header, entry_count, lowestFree, nextTier, Counter, next, previous, low, segment, order, count, Part, slot, counter, free, byte, Place, global, header, tier, field_at, global_no, global_widths, header_no, header_widths, counter_no, counter_widths, part_at, part_wide, PartIn, at, wide, In}
+use Rattle.layout.specs.declared.Global.{Global}
+use Rattle.layout.specs.declared.Global.TheVariants.{BulkCount as bulkCount, FirstFree as firstFree, UsedTiers as usedTiers, HeadersOffset as headersOffset, StoreSize as storeSize}
+use Rattle.layout.specs.declared.Header.{Header}
+use Rattle.layout.specs.declared.Header.TheVariants.{EntryCount as entry_count, LowestFree as lowestFree, NextTier as nextTier}
+use Rattle.layout.specs.declared.Counter.{Counter}
+use Rattle.layout.specs.declared.Counter.TheVariants.{Next as next, Previous as previous, Low as low, Segment as segment, Order as order, Count as count}
+use Rattle.layout.specs.Places.{Part, slot, counter, free, byte, Place, global, header, tier, field_at, global_no, global_widths, header_no, header_widths, counter_no, counter_widths, part_at, part_wide, PartIn, at, wide, In}
 use Rattle.layout.specs.Frame.{Framed, global_size}
 use Rattle.lists.proofs.Numbers.{mul-add-le}
 use Rattle.layout.proofs.Tiers.{rows_apart, mains-after, mains-end, tier-start, tier-before, tier-end}
@@ -71,7 +77,7 @@ global-within usedTiers = lit≤ tt
 global-within headersOffset = lit≤ tt
 global-within storeSize = lit≤ tt
 
-header-within : (f : Header) → 8 + field_at header_widths (header_no f) + get_or header_widths (header_no f) 0 ≤ 32
+pub header-within : (f : Header) → 8 + field_at header_widths (header_no f) + get_or header_widths (header_no f) 0 ≤ 32
 header-within entry_count = lit≤ tt
 header-within lowestFree = lit≤ tt
 header-within nextTier = lit≤ tt

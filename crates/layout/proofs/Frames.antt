@@ -4,24 +4,25 @@ use mathlib.Core.List.{List}
 use mathlib.Core.Path.{◌≡◌, refl, sym, ◌∙◌}
 use native.Mathlib.Omega.{arith}
 use lib.ListN.{length}
+use Rattle.std.specs.Prelude.{Some, None}
 use Rattle.lists.proofs.Decides.{choose-by, choose_no, choose_yes}
 use Rattle.words.specs.Numbers.{le}
 use Rattle.settings.specs.declared.Settings.{Settings}
 use Rattle.settings.specs.Rules.{Valid}
 use Rattle.layout.specs.declared.Shape.{Shape}
-use Rattle.layout.specs.declared.Frame.TheVariants.{Fits, Broken}
-use Rattle.layout.specs.Places.{bulkCount, headersOffset, storeSize, global, wide, get}
+use Rattle.layout.specs.declared.Global.TheVariants.{BulkCount as bulkCount, HeadersOffset as headersOffset, StoreSize as storeSize}
+use Rattle.layout.specs.Places.{global, wide, get}
 use Rattle.layout.specs.Frame.{shape_of, FrameFits, frame_fits?, frame_of, Framed}
 use Rattle.layout.proofs.Places.{global-at, get_at}
 
 -- ---- a frame is accepted exactly where it fits
 
 module _ (st : Settings) (img : List ℕ) where
-  pub frame-fits : FrameFits (shape_of st img) img → frame_of st img ≡ Fits (shape_of st img)
+  pub frame-fits : FrameFits (shape_of st img) img → frame_of st img ≡ Some (shape_of st img)
   unfolding frame_of
   frame-fits f = choose_yes (frame_fits? (shape_of st img) img) _ _ f
 
-  pub frame-broken : (FrameFits (shape_of st img) img → ⊥) → frame_of st img ≡ Broken
+  pub frame-broken : (FrameFits (shape_of st img) img → ⊥) → frame_of st img ≡ None
   unfolding frame_of
   frame-broken h = choose_no (frame_fits? (shape_of st img) img) _ _ h
 
@@ -30,17 +31,17 @@ module _ (st : Settings) (img : List ℕ) where
     pub is : z ≡ shape_of st img
     pub fits : FrameFits z img
 
-  pub frame-only : (z : Shape) → frame_of st img ≡ Fits z → Fitting z
+  pub frame-only : (z : Shape) → frame_of st img ≡ Some z → Fitting z
   unfolding frame_of
   frame-only z =
-      choose-by (frame_fits? (shape_of st img) img) _ _ (λ x. x ≡ Fits z → Fitting z) (λ _ e. absurd (let o : ◌≡◌ {A = ℕ} 0 1 = cc in omega arith))
+      choose-by (frame_fits? (shape_of st img) img) _ _ (λ x. x ≡ Some z → Fitting z) (λ _ e. absurd (let o : ◌≡◌ {A = ℕ} 0 1 = cc in omega arith))
       λ f e. let same : shape_of st img ≡ z = cc in record { is = sym same; fits = rw (← same) f }
 
   pub framed : Valid st → FrameFits (shape_of st img) img → Framed (shape_of st img) (length img)
   unfolding shape_of
   framed v f = record { valid = v; headers_after = f.headers_after; tier_count = f.tier_count; within = f.store_within; small = f.image_length.1 }
 
-  pub frame-framed : (z : Shape) → Valid st → frame_of st img ≡ Fits z → Framed z (length img)
+  pub frame-framed : (z : Shape) → Valid st → frame_of st img ≡ Some z → Framed z (length img)
   frame-framed z v e = let f = frame-only z e in rw f.is (framed v (rw f.is at f.fits))
 
 -- ---- the shape is what two places say

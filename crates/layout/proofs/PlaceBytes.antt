@@ -3,17 +3,23 @@ use Prim.Native.Nat.{ℕ, ◌+◌, ◌*◌, ◌≤◌}
 use mathlib.Core.List.{List}
 use mathlib.Core.Path.{◌≡◌, refl, ap, sym, ◌∙◌}
 use native.Mathlib.Omega.{arith}
+use lib.Dec.{lit≤}
 use lib.ListN.{get_or, length}
 use Rattle.words.specs.Numbers.{le, put_le}
 use Rattle.settings.specs.Rules.{largest}
 use Rattle.layout.specs.declared.Shape.{Shape}
 use Rattle.layout.specs.Tiers.{tier_at, IsTier}
-use Rattle.layout.specs.Places.{Global, Header, Counter, slot, counter, Place, global, tier, field_at, global_no, global_widths, header_no, header_widths, counter_no, counter_widths}
-use Rattle.layout.specs.Places.{part_wide, at, wide, In, get, put, counters_at, shared_place, shared_at}
+use Rattle.layout.specs.declared.Global.{Global}
+use Rattle.layout.specs.declared.Global.TheVariants.{BulkCount as bulkCount, FirstFree as firstFree, UsedTiers as usedTiers, HeadersOffset as headersOffset, StoreSize as storeSize}
+use Rattle.layout.specs.declared.Header.{Header}
+use Rattle.layout.specs.declared.Counter.{Counter}
+use Rattle.layout.specs.Places.{slot, counter, Place, global, tier, field_at, global_no, global_widths, counter_no, counter_widths}
+use Rattle.layout.specs.Places.{part_wide, at, wide, In, get, put, counters_at, shared_place, own_counter}
 use Rattle.layout.specs.Frame.{Framed}
 use Rattle.layout.specs.FramedTier.{FramedSlot}
 use Rattle.layout.proofs.Apart.{inside}
-use Rattle.layout.proofs.Places.{global-at, counter_at, slot_at, get_at, put-at, shared-at, shared-wide, shared_in}
+use Rattle.layout.proofs.Bounds.{slot-eight}
+use Rattle.layout.proofs.Places.{global-at, counter_at, slot_at, get_at, put-at, shared_in, shared-four}
 
 -- place p is the n bytes at offset a of an image of this length
 pub record PlaceBytes (z : Shape) (len : ℕ) (p : Place) (a n : ℕ) : Type 0 where
@@ -43,21 +49,29 @@ module _ {z : Shape} {len : ℕ} (fr : Framed z len) where
   unfolding wide
   global-bytes f = place-bytes (global f) tt (sym (global-at z f)) refl
 
+-- 8 bytes at most
+pub global-wide : (f : Global) → get_or global_widths (global_no f) 0 ≤ 8
+global-wide bulkCount = lit≤ tt
+global-wide firstFree = lit≤ tt
+global-wide usedTiers = lit≤ tt
+global-wide headersOffset = lit≤ tt
+global-wide storeSize = lit≤ tt
+
 module _ {z : Shape} {len t : ℕ} (h : Framed z len × IsTier z t) where
   pub counter-bytes : (f : Counter) {a : ℕ} → a ≡ counters_at z t
       → PlaceBytes z len (tier t (counter f)) (a + field_at counter_widths (counter_no f)) (get_or counter_widths (counter_no f) 0)
   unfolding wide part_wide
   counter-bytes f e = place-bytes h.0 (tier t (counter f)) (h.1, tt) (rw e (sym (counter_at z t f))) refl
 
-  -- a number that a main tier has in its segment header: f there, g in the counters of any other tier
-  module _ (f : Header) (g : Counter) {a : ℕ} (e : a ≡ shared_at z t (8 + field_at header_widths (header_no f)) (field_at counter_widths (counter_no g))) where
-    pub shared-bytes : {n : ℕ} → wide z (shared_place z f g t) ≡ n → PlaceBytes z len (shared_place z f g t) a n
-    shared-bytes w = place-bytes h.0 (shared_place z f g t) (shared_in z f g t h.1) (e ∙ sym (shared-at z f g t)) (sym w)
+  -- a number that a main tier has in its segment header, by its offset and width in one pair
+  module _ (f : Header) {r : ℕ × ℕ} (e : r ≡ (at z (shared_place z f (own_counter f) t), wide z (shared_place z f (own_counter f) t))) where
+    pub shared-bytes : {n : ℕ} → r.1 ≡ n → PlaceBytes z len (shared_place z f (own_counter f) t) r.0 n
+    shared-bytes w =
+        place-bytes h.0 (shared_place z f (own_counter f) t) (shared_in z f (own_counter f) t h.1) (ap (λ (p : ℕ × ℕ). p.0) e)
+        (sym w ∙ ap (λ (p : ℕ × ℕ). p.1) e)
 
-    -- where the two have one width
-    pub shared-bytes-alike : get_or header_widths (header_no f) 0 ≡ get_or counter_widths (counter_no g) 0
-        → PlaceBytes z len (shared_place z f g t) a (get_or header_widths (header_no f) 0)
-    shared-bytes-alike w = shared-bytes (shared-wide z f g t w)
+    pub shared-eight : (r.1 ≡ 4 → ⊥) → r.1 ≡ 8
+    shared-eight = slot-eight (rw (ap (λ (p : ℕ × ℕ). p.1) e) (shared-four z f t))
 
 pub slot-bytes : {z : Shape} {img : List ℕ} {t j : ℕ} → FramedSlot z img t j → {a n : ℕ} → a ≡ tier_at z t → n ≡ z.settings.slotSize
     → PlaceBytes z (length img) (tier t (slot j)) (a + j * z.settings.slotSize) n

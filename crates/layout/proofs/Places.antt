@@ -16,9 +16,15 @@ use Rattle.words.proofs.Bytes.{get_or-sets-out}
 use Rattle.words.proofs.Numbers.{length_le_bytes, length-put_le, bytes-put_le, le-lt, le-put_le-same, le-put_le-out}
 use Rattle.layout.specs.declared.Shape.{Shape}
 use Rattle.layout.specs.Tiers.{tier_at, IsTier}
-use Rattle.layout.specs.Places.{Global, bulkCount, firstFree, usedTiers, headersOffset, storeSize, Header, entry_count, lowestFree, nextTier, Counter, next, previous, low, segment, order, count, slot, counter, free, byte, Place, global, header, tier}
-use Rattle.layout.specs.Places.{field_at, global_no, global_widths, header_no, header_widths, counter_no, counter_widths, part_at}
-use Rattle.layout.specs.Places.{part_wide, at, wide, In, get, put, counters_at, shared_place, shared_at, Write, ◌≔◌, puts}
+use Rattle.layout.specs.declared.Global.{Global}
+use Rattle.layout.specs.declared.Global.TheVariants.{BulkCount as bulkCount, FirstFree as firstFree, UsedTiers as usedTiers, HeadersOffset as headersOffset, StoreSize as storeSize}
+use Rattle.layout.specs.declared.Header.{Header}
+use Rattle.layout.specs.declared.Header.TheVariants.{EntryCount as entry_count, LowestFree as lowestFree, NextTier as nextTier}
+use Rattle.layout.specs.declared.Counter.{Counter}
+use Rattle.layout.specs.declared.Counter.TheVariants.{Next as next, Previous as previous, Low as low, Segment as segment, Order as order, Count as count}
+use Rattle.layout.specs.Places.{slot, counter, free, byte, Place, global, header, tier}
+use Rattle.layout.specs.Places.{field_at, global_no, global_widths, header_no, header_widths, counter_no, counter_widths, own_counter, part_at}
+use Rattle.layout.specs.Places.{part_wide, at, wide, In, get, put, counters_at, shared_place, Write, ◌≔◌, puts}
 use Rattle.layout.specs.Frame.{Framed, Image}
 use Rattle.layout.proofs.Apart.{apart, inside}
 
@@ -177,15 +183,6 @@ counter-lt count = lit< tt
 
 -- ---- the three numbers that a main tier has in its segment header
 
-module _ (z : Shape) (t a b : ℕ) where
-  pub shared_at_main : t ≤ z.settings.segments → shared_at z t a b ≡ z.headers + (t - 1) * z.settings.headerSize + a
-  unfolding shared_at
-  shared_at_main h = rw (le-leb t z.settings.segments h, shared_at)
-
-  pub shared_at_extra : z.settings.segments < t → shared_at z t a b ≡ counters_at z t + b
-  unfolding shared_at
-  shared_at_extra h = rw (lt-leb t z.settings.segments h, shared_at)
-
 module _ (z : Shape) (f : Header) (g : Counter) where
   pub shared-main : (t : ℕ) → t ≤ z.settings.segments → shared_place z f g t ≡ header (t - 1) f
   unfolding shared_place
@@ -200,12 +197,12 @@ module _ (z : Shape) (f : Header) (g : Counter) where
       ((z.settings.segments < t) × (shared_place z f g t ≡ tier t (counter g)))
   shared-is t = ⊎_elim (λ h. inr (h, shared-extra t h)) (λ h. inl (h, shared-main t h)) (lt-or z.settings.segments t)
 
-  pub shared-at : (t : ℕ) → at z (shared_place z f g t) ≡ shared_at z t (8 + field_at header_widths (header_no f)) (field_at counter_widths (counter_no g))
-  shared-at t =
-      ⊎_elim
-      (λ s. rw (s.1, shared_at_main z t _ _ s.0) (header_at z (t - 1) f))
-      (λ s. rw (s.1, shared_at_extra z t _ _ s.0) (counter_at z t g))
-      (shared-is t)
+  shared-at-main : (t : ℕ) → t ≤ z.settings.segments
+      → at z (shared_place z f g t) ≡ z.headers + (t - 1) * z.settings.headerSize + (8 + field_at header_widths (header_no f))
+  shared-at-main t h = rw (shared-main t h) (header_at z (t - 1) f)
+
+  shared-at-extra : (t : ℕ) → z.settings.segments < t → at z (shared_place z f g t) ≡ counters_at z t + field_at counter_widths (counter_no g)
+  shared-at-extra t h = rw (shared-extra t h) (counter_at z t g)
 
   pub shared-wide-main : (t : ℕ) → t ≤ z.settings.segments → wide z (shared_place z f g t) ≡ get_or header_widths (header_no f) 0
   unfolding wide
@@ -219,6 +216,17 @@ module _ (z : Shape) (f : Header) (g : Counter) where
   pub shared-wide : (t : ℕ) → get_or header_widths (header_no f) 0 ≡ get_or counter_widths (counter_no g) 0
       → wide z (shared_place z f g t) ≡ get_or header_widths (header_no f) 0
   shared-wide t e = ⊎_elim (λ s. shared-wide-main t s.0) (λ s. shared-wide-extra t s.0 ∙ sym e) (shared-is t)
+
+  -- its offset and its width
+  pub shared-bytes-main : (t : ℕ) → t ≤ z.settings.segments
+      → ◌≡◌ {A = ℕ × ℕ} (z.headers + (t - 1) * z.settings.headerSize + (8 + field_at header_widths (header_no f)), get_or header_widths (header_no f) 0)
+      (at z (shared_place z f g t), wide z (shared_place z f g t))
+  shared-bytes-main t h = rw (shared-at-main t h, shared-wide-main t h)
+
+  pub shared-bytes-extra : (t : ℕ) → z.settings.segments < t
+      → ◌≡◌ {A = ℕ × ℕ} (counters_at z t + field_at counter_widths (counter_no g), get_or counter_widths (counter_no g) 0)
+      (at z (shared_place z f g t), wide z (shared_place z f g t))
+  shared-bytes-extra t h = rw (shared-at-extra t h, shared-wide-extra t h)
 
   pub shared_in : (t : ℕ) → IsTier z t → In z (shared_place z f g t)
   shared_in t h = ⊎_elim (λ s. rw s.1 (omega arith)) (λ s. rw s.1 (h, tt)) (shared-is t)
@@ -255,6 +263,25 @@ module _ (z : Shape) (f : Header) (g : Counter) where
       (λ b. let same : t ≡ u = cc in ne same)
       (shared-is u))
       (shared-is t)
+
+-- 4 bytes or 8
+header-four : (f : Header) → (get_or header_widths (header_no f) 0 ≡ 4) ⊎ (get_or header_widths (header_no f) 0 ≡ 8)
+header-four entry_count = inl refl
+header-four lowestFree = inl refl
+header-four nextTier = inr refl
+
+own-four : (f : Header) → (get_or counter_widths (counter_no (own_counter f)) 0 ≡ 4) ⊎ (get_or counter_widths (counter_no (own_counter f)) 0 ≡ 8)
+own-four entry_count = inl refl
+own-four lowestFree = inr refl
+own-four nextTier = inr refl
+
+pub shared-four : (z : Shape) (f : Header) (t : ℕ)
+    → (wide z (shared_place z f (own_counter f) t) ≡ 4) ⊎ (wide z (shared_place z f (own_counter f) t) ≡ 8)
+shared-four z f t =
+    ⊎_elim
+    (λ (s : z.settings.segments < t). rw (shared-wide-extra z f (own_counter f) t s) (own-four f))
+    (λ (s : t ≤ z.settings.segments). rw (shared-wide-main z f (own_counter f) t s) (header-four f))
+    (lt-or z.settings.segments t)
 
 -- two of the three, of whatever tiers
 pub shared-fields : (z : Shape) (f f' : Header) (g g' : Counter) (t u : ℕ) → header_no f ≢ header_no f' → counter_no g ≢ counter_no g'

@@ -1,5 +1,5 @@
 -- The frame of the image: refusal 4.
-use Rattle.std.specs.Prelude.{ℕ, ◌+◌, ◌^◌, ◌≤◌, ◌<◌, List, ◌≡◌, length}
+use Rattle.std.specs.Prelude.{ℕ, ◌+◌, ◌^◌, ◌≤◌, ◌<◌, List, ◌≡◌, length, Option, Some, None}
 use Rattle.std.proofs.Math.Decide.{dec_le, ℕ_discrete}
 use Rattle.lists.specs.Decide.{rule, choose}
 use Rattle.words.specs.Bytes.{Bytes}
@@ -8,10 +8,9 @@ use Rattle.settings.specs.declared.Settings.{Settings}
 use Rattle.settings.specs.Rules.{Between, largest, Valid}
 use Rattle.settings.specs.Decide.{between?}
 use Rattle.layout.specs.declared.Shape.{Shape}
-use Rattle.layout.specs.declared.Frame.{Frame}
-use Rattle.layout.specs.declared.Frame.TheVariants.{Fits, Broken}
 use Rattle.layout.specs.Tiers.{tiers, store_end, IsTier}
-use Rattle.layout.specs.Places.{get, global, storeSize}
+use Rattle.layout.specs.declared.Global.TheVariants.{StoreSize as storeSize}
+use Rattle.layout.specs.Places.{get, global}
 
 -- the headers offset and the bulk count as the global state has them
 unfoldable pub shape_of : Settings → List ℕ → Shape
@@ -48,8 +47,8 @@ pub record Bounded (z : Shape) : Type 0 where
 
 -- ---- the answer
 
-unfoldable pub frame_of : Settings → List ℕ → Frame
-frame_of st img = choose (frame_fits? (shape_of st img) img) (λ _. Broken) (λ _. Fits (shape_of st img))
+unfoldable pub frame_of : Settings → List ℕ → Option Shape
+frame_of st img = choose (frame_fits? (shape_of st img) img) (λ _. None) (λ _. Some (shape_of st img))
 
 -- ---- an image whose frame fits
 
@@ -71,10 +70,3 @@ pub record HasChunks (z : Shape) (len t c n : ℕ) : Type 0 where
   pub framed : Framed z len
   pub tier : IsTier z t
   pub within : c + n ≤ z.settings.chunks
-
--- tier t, and two offsets of one number: in a segment header and in a tier's counters
-pub record HasShared (z : Shape) (t inHeader inCounters : ℕ) : Type 0 where
-  pub framed : Framed z largest
-  pub tier : IsTier z t
-  pub header : inHeader ≤ 32
-  pub counters : inCounters ≤ 64

@@ -4,21 +4,16 @@ use Rattle.words.specs.Numbers.{le, put_le}
 use Rattle.words.specs.Bits.{bit, put_bits}
 use Rattle.layout.specs.declared.Shape.{Shape}
 use Rattle.layout.specs.declared.Counters.{Counters}
+use Rattle.layout.specs.declared.Global.{Global}
+use Rattle.layout.specs.declared.Global.TheVariants.{BulkCount as bulkCount, FirstFree as firstFree, UsedTiers as usedTiers, HeadersOffset as headersOffset, StoreSize as storeSize}
+use Rattle.layout.specs.declared.Header.{Header}
+use Rattle.layout.specs.declared.Header.TheVariants.{EntryCount as entry_count, LowestFree as lowestFree, NextTier as nextTier}
+use Rattle.layout.specs.declared.Counter.{Counter}
+use Rattle.layout.specs.declared.Counter.TheVariants.{Next as next, Previous as previous, Low as low, Segment as segment, Order as order, Count as count}
 use Rattle.layout.specs.Tiers.{tier_at, IsTier}
 
 infix 70 ◌≔◌
 -- ---- the names
-
-pub data Global : Type 0 where
-  bulkCount firstFree usedTiers headersOffset storeSize : Global
-
--- of a segment header
-pub data Header : Type 0 where
-  entry_count lowestFree nextTier : Header
-
--- of a tier's counters
-pub data Counter : Type 0 where
-  next previous low segment order count : Counter
 
 -- a part of a tier: slot j, a counter, byte b of the free list, byte i of the chunks
 pub data Part : Type 0 where
@@ -70,6 +65,12 @@ counter_no count = 5
 -- 0..7, 8..15, 16..23, 24..27, 28..31, 32..35
 abbrev pub counter_widths : List ℕ
 counter_widths = 8 ∷ 8 ∷ 8 ∷ 4 ∷ 4 ∷ 4 ∷ []
+
+-- the counter in which a tier without a segment header has such a number
+abbrev pub own_counter : Header → Counter
+own_counter entry_count = count
+own_counter lowestFree = low
+own_counter nextTier = next
 
 -- ---- where a place stands, how many bytes it has, and whether there is such a place
 
@@ -135,10 +136,6 @@ module _ (z : Shape) where
   -- a main tier has its next, lowest free chunk and entry count in its segment header, any other tier in its own counters
   unfoldable pub shared_place : Header → Counter → ℕ → Place
   shared_place f g t = elim (leb t segments) [ true ↦ header (t - 1) f | false ↦ tier t (counter g) ]
-
-  -- where such a number stands, by its offsets in the header and in the counters
-  unfoldable pub shared_at : ℕ → ℕ → ℕ → ℕ
-  shared_at t a b = elim (leb t segments) [ true ↦ headers + (t - 1) * headerSize + a | false ↦ counters_at t + b ]
 
   abbrev pub next_place : ℕ → Place
   next_place t = shared_place nextTier next t

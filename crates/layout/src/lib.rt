@@ -6,12 +6,13 @@ use settings::Settings;
 pub mod read;
 pub mod write;
 
-ghost use Rattle.std.specs.Prelude.{◌≡◌, ◌+◌, ◌*◌, ◌<◌, ◌≤◌, length};
+ghost use Rattle.std.specs.Prelude.{◌≡◌, ◌+◌, ◌*◌, ◌<◌, ◌≤◌, length, get_or};
 ghost use Rattle.lists.specs.Decide.{Decides};
 ghost use Rattle.settings.specs.Rules.{Valid, Between, largest};
 ghost use Rattle.layout.specs.Tiers.{tiers, mains as tiers_mains, bulks_at as tiers_bulks_at, store_end as tiers_store_end, extra_at as tiers_extra_at, tier_at as tiers_tier_at, IsTier};
-ghost use Rattle.layout.specs.Places.{counters_at as places_counters_at, shared_at, counters_of, free_list_at as places_free_list_at, chunk_at as places_chunk_at};
-ghost use Rattle.layout.specs.Frame.{shape_of, Bounded, FrameFits, frame_of, Framed, HasChunks, HasShared, global_size};
+ghost use Rattle.layout.specs.Places.{field_at, global_no, global_widths, header_no, header_widths, counter_no, counter_widths, own_counter};
+ghost use Rattle.layout.specs.Places.{at as place_at, wide, shared_place, counters_at as places_counters_at, counters_of, free_list_at as places_free_list_at, chunk_at as places_chunk_at};
+ghost use Rattle.layout.specs.Frame.{shape_of, Bounded, FrameFits, frame_of, Framed, HasChunks, global_size};
 
 // The settings, with the two numbers of the global state that say where things stand: the headers offset and the bulk count.
 #[derive(Clone, Copy)]
@@ -19,13 +20,6 @@ pub struct Shape {
     pub settings: Settings,
     pub headers: usize,
     pub bulks: usize,
-}
-
-// What the frame of an image gives: its shape, or a refusal.
-#[derive(Clone, Copy)]
-pub enum Frame {
-    Fits(Shape),
-    Broken,
 }
 
 // The most tiers of an image.
@@ -45,6 +39,31 @@ const HEADERS_OFFSET: usize = 21;
 
 const STORE_SIZE: usize = 25;
 
+// The numbers of the global state.
+#[derive(Clone, Copy)]
+pub enum Global {
+    BulkCount,
+    FirstFree,
+    UsedTiers,
+    HeadersOffset,
+    StoreSize,
+}
+
+impl Global {
+    // The offset in the global state, and how many bytes.
+    fn bytes(self) -> (usize, usize)
+        ensures { result ≡ (8 + field_at global_widths (global_no self), get_or global_widths (global_no self) 0) }
+    {
+        match self {
+            Global::BulkCount => (BULK_COUNT, 3),
+            Global::FirstFree => (FIRST_FREE, 5),
+            Global::UsedTiers => (USED_TIERS, 5),
+            Global::HeadersOffset => (HEADERS_OFFSET, 4),
+            Global::StoreSize => (STORE_SIZE, 8),
+        }
+    }
+}
+
 // Offsets in a segment header.
 const ENTRY_COUNT: usize = 8;
 
@@ -52,8 +71,40 @@ const LOWEST_FREE: usize = 12;
 
 const NEXT_TIER: usize = 16;
 
+// The numbers of a segment header: a main tier has them there, any other tier in its counters.
+#[derive(Clone, Copy)]
+pub enum Header {
+    EntryCount,
+    LowestFree,
+    NextTier,
+}
+
+impl Header {
+    // The offset in a segment header, and how many bytes.
+    fn bytes(self) -> (usize, usize)
+        ensures { result ≡ (8 + field_at header_widths (header_no self), get_or header_widths (header_no self) 0) }
+    {
+        match self {
+            Header::EntryCount => (ENTRY_COUNT, 4),
+            Header::LowestFree => (LOWEST_FREE, 4),
+            Header::NextTier => (NEXT_TIER, 8),
+        }
+    }
+
+    // The counter in which a tier without a segment header has this number.
+    fn counter(self) -> Counter
+        ensures { result ≡ own_counter self }
+    {
+        match self {
+            Header::EntryCount => Counter::Count,
+            Header::LowestFree => Counter::Low,
+            Header::NextTier => Counter::Next,
+        }
+    }
+}
+
 // The counters that every tier has in its own place. Next, low and count are not among them: a main tier has
-// those in its segment header, and in its counters they are neither read nor written. See shared_at.
+// those in its segment header, and in its counters they are neither read nor written. See Header.
 #[derive(Clone, Copy)]
 pub struct Counters {
     pub previous: u64,
@@ -83,6 +134,33 @@ impl Counters {
             previous: words::read_le8(img, at + Counters::PREVIOUS),
             segment: words::read_le4(img, at + Counters::SEGMENT),
             order: words::read_le4(img, at + Counters::ORDER),
+        }
+    }
+}
+
+// The numbers of a tier's counters.
+#[derive(Clone, Copy)]
+pub enum Counter {
+    Next,
+    Previous,
+    Low,
+    Segment,
+    Order,
+    Count,
+}
+
+impl Counter {
+    // The offset in the counters, and how many bytes.
+    fn bytes(self) -> (usize, usize)
+        ensures { result ≡ (field_at counter_widths (counter_no self), get_or counter_widths (counter_no self) 0) }
+    {
+        match self {
+            Counter::Next => (Counters::NEXT, 8),
+            Counter::Previous => (Counters::PREVIOUS, 8),
+            Counter::Low => (Counters::LOW, 8),
+            Counter::Segment => (Counters::SEGMENT, 4),
+            Counter::Order => (Counters::ORDER, 4),
+            Counter::Count => (Counters::COUNT, 4),
         }
     }
 }
@@ -151,23 +229,19 @@ fn frame_fits(z: Shape, img: &[u8]) -> bool
     true
 }
 
-// The shape of an image whose frame fits, or a refusal.
-pub fn frame_of(st: Settings, img: &[u8]) -> Frame
+// The shape of an image whose frame fits, or nothing.
+pub fn frame_of(st: Settings, img: &[u8]) -> Option<Shape>
     requires { Valid st }
     ensures { result ≡ frame_of st img.now }
 {
     if img.len() < st.globalAt + GLOBAL_SIZE {
-        return Frame::Broken;
+        return None;
     }
     if settings::LARGEST < img.len() {
-        return Frame::Broken;
+        return None;
     }
     let z = shape_of(st, img);
-    if frame_fits(z, img) {
-        Frame::Fits(z)
-    } else {
-        Frame::Broken
-    }
+    if frame_fits(z, img) { Some(z) } else { None }
 }
 
 // ---- where the parts of a tier stand
@@ -215,14 +289,16 @@ pub fn chunk_at(z: Shape, t: usize, c: usize) -> usize
     free_list_at(z, t) + z.settings.freeListSize + z.settings.innerOffset + c * z.settings.chunkSize
 }
 
-// Where a number stands that a main tier has in its segment header and any other tier in its counters.
-fn shared_at(z: Shape, t: usize, in_header: usize, in_counters: usize) -> usize
-    requires { HasShared z t in_header in_counters }
-    ensures { result ≡ shared_at z t in_header in_counters }
+// Where a number stands that a main tier has in its segment header and any other tier in its counters, and how many bytes.
+fn shared_bytes(z: Shape, t: usize, field: Header) -> (usize, usize)
+    requires { Framed z largest × IsTier z t }
+    ensures { result ≡ (place_at z (shared_place z field (own_counter field) t), wide z (shared_place z field (own_counter field) t)) }
 {
     if z.settings.segments < t {
-        counters_at(z, t) + in_counters
+        let (at, wide) = field.counter().bytes();
+        (counters_at(z, t) + at, wide)
     } else {
-        z.headers + (t - 1) * z.settings.headerSize + in_header
+        let (at, wide) = field.bytes();
+        (z.headers + (t - 1) * z.settings.headerSize + at, wide)
     }
 }

@@ -1,57 +1,31 @@
 // The numbers of an image, read: one function for each kind of place.
 ghost use Rattle.std.specs.Prelude.{◌≡◌, ◌<◌, length};
 ghost use Rattle.layout.specs.Tiers.{IsTier};
-ghost use Rattle.layout.specs.Places.{get, global, firstFree, usedTiers, tier, slot as places_slot, next_place, low_place, count_place, mark as places_mark};
+ghost use Rattle.layout.specs.Places.{get, global as places_global, tier, slot as places_slot, shared_place, own_counter, mark as places_mark};
 ghost use Rattle.layout.specs.Frame.{Framed, HasChunks};
 ghost use Rattle.layout.specs.FramedTier.{FramedSlot};
 
-use super::{Counters, Shape};
+use super::{Global, Header, Shape};
 
-pub fn first_free(z: Shape, img: &[u8]) -> u64
+pub fn global(z: Shape, img: &[u8], field: Global) -> u64
     requires { Framed z (length img.now) }
-    ensures { result ≡ get z img.now (global firstFree) }
+    ensures { result ≡ get z img.now (places_global field) }
 {
-    words::read_le(img, z.settings.globalAt + super::FIRST_FREE, 5)
+    let (at, wide) = field.bytes();
+    words::read_le(img, z.settings.globalAt + at, wide)
 }
 
-pub fn used_tiers(z: Shape, img: &[u8]) -> u64
-    requires { Framed z (length img.now) }
-    ensures { result ≡ get z img.now (global usedTiers) }
-{
-    words::read_le(img, z.settings.globalAt + super::USED_TIERS, 5)
-}
-
-pub fn next_of(z: Shape, img: &[u8], t: usize) -> u64
+// A number that a main tier has in its segment header, and any other tier in its counters.
+pub fn shared(z: Shape, img: &[u8], t: usize, field: Header) -> u64
     requires { Framed z (length img.now) × IsTier z t }
-    ensures { result ≡ get z img.now (next_place z t) }
+    ensures { result ≡ get z img.now (shared_place z field (own_counter field) t) }
 {
-    words::read_le8(
-        img,
-        super::shared_at(z, t, super::NEXT_TIER, Counters::NEXT),
-    )
-}
-
-// 4 bytes in a segment header, 8 in a tier's counters.
-pub fn low_of(z: Shape, img: &[u8], t: usize) -> u64
-    requires { Framed z (length img.now) × IsTier z t }
-    ensures { result ≡ get z img.now (low_place z t) }
-{
-    let at = super::shared_at(z, t, super::LOWEST_FREE, Counters::LOW);
-    if t <= z.settings.segments {
+    let (at, wide) = super::shared_bytes(z, t, field);
+    if wide == 4 {
         words::read_le4(img, at)
     } else {
         words::read_le8(img, at)
     }
-}
-
-pub fn count_of(z: Shape, img: &[u8], t: usize) -> u64
-    requires { Framed z (length img.now) × IsTier z t }
-    ensures { result ≡ get z img.now (count_place z t) }
-{
-    words::read_le4(
-        img,
-        super::shared_at(z, t, super::ENTRY_COUNT, Counters::COUNT),
-    )
 }
 
 pub fn slot(z: Shape, img: &[u8], t: usize, j: usize) -> u64

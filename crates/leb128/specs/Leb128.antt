@@ -1,8 +1,6 @@
 -- Unsigned LEB128, shortest form, and the lengths that are read in it.
-use Rattle.std.specs.Prelude.{ℕ, zero, suc, ◌+◌, ◌*◌, ◌/◌, ◌%◌, ◌≤◌, ◌≡◌, List, [], ◌∷◌, true, false, ◌&&◌, ltb, leb, length, drop}
+use Rattle.std.specs.Prelude.{ℕ, zero, suc, ◌+◌, ◌*◌, ◌/◌, ◌%◌, ◌≤◌, ◌≡◌, List, [], ◌∷◌, true, false, ◌&&◌, ltb, leb, length, drop, Option, Some, None}
 use Rattle.words.specs.Bytes.{cut, same}
-use Rattle.leb128.specs.declared.Decoded.{Decoded}
-use Rattle.leb128.specs.declared.Decoded.TheVariants.{Number, Refused}
 
 -- seven bits a byte, the lowest first; 128 is added to each byte but the last; at most `more` bytes follow the first
 unfoldable pub encode_within : ℕ → ℕ → List ℕ
@@ -29,12 +27,12 @@ abbrev pub largest_length : ℕ
 largest_length = 65535
 
 -- bytes from place `at` that are the shortest form of a length: the length and the next place
-unfoldable pub accept : List ℕ → ℕ → Decoded
+unfoldable pub accept : List ℕ → ℕ → Option (ℕ × ℕ)
 accept bs at =
-    elim (same bs (encode (value bs)) && leb (value bs) largest_length) [ true ↦ Number (value bs) (at + length bs) | false ↦ Refused ]
+    elim (same bs (encode (value bs)) && leb (value bs) largest_length) [ true ↦ Some (value bs, at + length bs) | false ↦ None ]
 
 -- what is read at place `at`: three bytes are enough for every length
-unfoldable pub decode : List ℕ → ℕ → Decoded
+unfoldable pub decode : List ℕ → ℕ → Option (ℕ × ℕ)
 decode l at = accept (front 3 (drop at l)) at
 
 -- a length stands at a place in its shortest form, and `next` is the place after it; `decode` reads exactly these

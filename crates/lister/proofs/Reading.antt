@@ -10,24 +10,26 @@ use lib.Dec.{ltb}
 use lib.ListN.{length, take}
 use lib.Seq.{length-take-le}
 use borrow.Author.Tests.{ltb-false, lt-ltb, le-ltb}
+use Rattle.std.specs.Prelude.{Result, Ok, Err}
 use Rattle.lists.specs.Cases.{by-test, lt-or}
 use Rattle.lists.proofs.Decides.{choose-by, choose_no, choose_yes}
 use Rattle.words.specs.Numbers.{be}
-use Rattle.settings.specs.declared.Parsed.{Parsed}
-use Rattle.settings.specs.declared.Parsed.TheVariants.{Accepted, BadBlock, BadField}
+use Rattle.settings.specs.declared.ParseError.{ParseError}
+use Rattle.settings.specs.declared.ParseError.TheVariants as fault
 use Rattle.settings.specs.declared.Settings.{Settings}
 use Rattle.settings.specs.Versions.{most_fields, fields_of, head_size, block_size}
 use Rattle.settings.specs.Block.{version, parse}
 use Rattle.settings.proofs.Versions.{fields-most}
 use Rattle.image.specs.declared.Stage.{Stage}
-use Rattle.image.specs.declared.Stage.TheVariants.{Block, Field, Frame}
+use Rattle.image.specs.Check.{stage_of}
+use Rattle.image.specs.declared.Stage.TheVariants.{Block, Frame}
 use Rattle.lister.specs.declared.input.Input.{Input}
-use Rattle.lister.specs.declared.input.Input.TheVariants.{More, Whole, Refused}
+use Rattle.lister.specs.declared.input.Input.TheVariants.{More, Whole}
 use Rattle.lister.specs.Input.{image_at, limit, longest, missing, needed, reading_image, reading_length, from_parsed, reading_block, reading_fields, reading, Decided, HasRead}
 
 -- ---- by cases
 
-module _ (s : Stage) (n : ℕ) (read : List ℕ) (ended : Bool) (next : Input) where
+module _ (s : Stage) (n : ℕ) (read : List ℕ) (ended : Bool) (next : Result Input Stage) where
   pub needed-short : length read < n → needed s n read ended next ≡ missing s n ended
   unfolding needed
   needed-short h = rw (lt-ltb (length read) n h, needed)
@@ -37,11 +39,11 @@ module _ (s : Stage) (n : ℕ) (read : List ℕ) (ended : Bool) (next : Input) w
   needed-there h = rw (le-ltb (length read) n h, needed)
 
 module _ (end n : ℕ) (read : List ℕ) (ended : Bool) where
-  pub image-long : limit < n → reading_image end n read ended ≡ Refused Frame
+  pub image-long : limit < n → reading_image end n read ended ≡ Err Frame
   unfolding reading_image
   image-long h = rw (lt-ltb limit n h, reading_image)
 
-  pub image-short : n ≤ limit → reading_image end n read ended ≡ needed Frame (image_at end + n) read ended (Whole end n)
+  pub image-short : n ≤ limit → reading_image end n read ended ≡ needed Frame (image_at end + n) read ended (Ok (Whole end n))
   unfolding reading_image
   image-short h = rw (le-ltb limit n h, reading_image)
 
@@ -68,32 +70,29 @@ module _ (end n : ℕ) (read : List ℕ) (ended : Bool) where
   pub image-missing : n ≤ limit → length read < image_at end + n → reading_image end n read ended ≡ missing Frame (image_at end + n) ended
   image-missing h l = rw (image-short end n read ended h) (needed-short Frame (image_at end + n) read ended _ l)
 
-  pub image-there : n ≤ limit → image_at end + n ≤ length read → reading_image end n read ended ≡ Whole end n
+  pub image-there : n ≤ limit → image_at end + n ≤ length read → reading_image end n read ended ≡ Ok (Whole end n)
   image-there h l = rw (image-short end n read ended h) (needed-there Frame (image_at end + n) read ended _ l)
 
-module _ (p : Parsed) (next : Input) where
-  pub parsed-bad_block : p ≡ BadBlock → from_parsed p next ≡ Refused Block
+module _ (p : Result Settings ParseError) (next : Result Input Stage) where
+  pub parsed-refused : (e : ParseError) → p ≡ Err e → from_parsed p next ≡ Err (stage_of e)
   unfolding from_parsed
-  parsed-bad_block e = rw e
+  parsed-refused fault.Block q = rw q
+  parsed-refused fault.Field q = rw q
 
-  pub parsed-bad_field : p ≡ BadField → from_parsed p next ≡ Refused Field
-  unfolding from_parsed
-  parsed-bad_field e = rw e
-
-  pub parsed-accepted : (st : Settings) → p ≡ Accepted st → from_parsed p next ≡ next
+  pub parsed-accepted : (st : Settings) → p ≡ Ok st → from_parsed p next ≡ next
   unfolding from_parsed
   parsed-accepted st e = rw e
 
 pub ruleset length_steps = (length-missing, length-there, image-long, image-missing, image-there)
 
-pub ruleset block_steps = (block-missing, block-there, parsed-bad_block, parsed-bad_field, parsed-accepted)
+pub ruleset block_steps = (block-missing, block-there, parsed-refused, parsed-accepted)
 
 module _ (read : List ℕ) (ended : Bool) {fields : ℕ} (there : head_size ≤ length read) (e : fields ≡ fields_of (version read)) where
   fields-next : reading read ended ≡ reading_fields fields read ended
   unfolding reading
   fields-next = rw e (needed-there _ head_size read ended _ there)
 
-  pub version-unknown : fields ≡ 0 → Refused Block ≡ reading read ended
+  pub version-unknown : fields ≡ 0 → Err Block ≡ reading read ended
   unfolding reading_fields
   version-unknown z = sym (fields-next ∙ choose_no (dec_lt 0 fields) _ _ (λ (h : 0 < fields). omega arith))
 
@@ -103,17 +102,17 @@ module _ (read : List ℕ) (ended : Bool) {fields : ℕ} (there : head_size ≤ 
 
 -- ---- it asks for more than it has, within the longest input, and never after the end; a whole image is within what was read
 
-abbrev pub Bounds : List ℕ → Bool → Input → Type 0
-Bounds read ended (More n) = (ended ≡ false) × (length read < n) × (n ≤ longest)
-Bounds read ended (Whole end n) = image_at end + n ≤ length read
-Bounds read ended (Refused s) = Unit
+abbrev pub Bounds : List ℕ → Bool → Result Input Stage → Type 0
+Bounds read ended (Ok (More n)) = (ended ≡ false) × (length read < n) × (n ≤ longest)
+Bounds read ended (Ok (Whole end n)) = image_at end + n ≤ length read
+Bounds read ended (Err s) = Unit
 
 missing-bounds : (read : List ℕ) (ended : Bool) (s : Stage) (n : ℕ) → length read < n → n ≤ longest → Bounds read ended (missing s n ended)
 missing-bounds read true s n l h = tt
 missing-bounds read false s n l h = (refl, l, h)
 
 module _ (read : List ℕ) (ended : Bool) where
-  needed-bounds : (s : Stage) (n : ℕ) (next : Input) → n ≤ longest → (n ≤ length read → Bounds read ended next)
+  needed-bounds : (s : Stage) (n : ℕ) (next : Result Input Stage) → n ≤ longest → (n ≤ length read → Bounds read ended next)
       → Bounds read ended (needed s n read ended next)
   needed-bounds s n next h f =
       ⊎_elim
@@ -125,14 +124,14 @@ module _ (read : List ℕ) (ended : Bool) where
   image-bounds end n h =
       ⊎_elim
       (λ (l : limit < n). rw (image-long end n read ended l) tt)
-      (λ (l : n ≤ limit). rw (image-short end n read ended l) (needed-bounds Frame (image_at end + n) (Whole end n) (omega arith) (λ w. w)))
+      (λ (l : n ≤ limit). rw (image-short end n read ended l) (needed-bounds Frame (image_at end + n) (Ok (Whole end n)) (omega arith) (λ w. w)))
       (lt-or limit n)
 
-  parsed-bounds : (p : Parsed) (next : Input) → Bounds read ended next → Bounds read ended (from_parsed p next)
+  parsed-bounds : (p : Result Settings ParseError) (next : Result Input Stage) → Bounds read ended next → Bounds read ended (from_parsed p next)
   unfolding from_parsed
-  parsed-bounds BadBlock next h = tt
-  parsed-bounds BadField next h = tt
-  parsed-bounds (Accepted st) next h = h
+  parsed-bounds (Err fault.Block) next h = tt
+  parsed-bounds (Err fault.Field) next h = tt
+  parsed-bounds (Ok st) next h = h
 
   block-bounds : (end : ℕ) → end ≤ block_size most_fields → Bounds read ended (reading_block end read ended)
   unfolding reading_block reading_length
@@ -150,19 +149,19 @@ module _ (read : List ℕ) (ended : Bool) where
 
 -- ---- so a buffer of the longest input is enough, and reading on ends
 
-module _ (buf : List ℕ) (got : ℕ) (ended : Bool) {r : Input} (fits : (length buf ≡ longest) × (got ≤ longest))
+module _ (buf : List ℕ) (got : ℕ) (ended : Bool) {r : Result Input Stage} (fits : (length buf ≡ longest) × (got ≤ longest))
     (due : r ≡ reading (take got buf) ended) where
-  pub more-asked : {n : ℕ} → r ≡ More n → (ended ≡ false) × (got < n) × (n ≤ longest)
+  pub more-asked : {n : ℕ} → r ≡ Ok (More n) → (ended ≡ false) × (got < n) × (n ≤ longest)
   more-asked {n} e =
-      let bounds : Bounds (take got buf) ended (More n) = rw (sym due ∙ e) at (reading-bounds (take got buf) ended) in
+      let bounds : Bounds (take got buf) ended (Ok (More n)) = rw (sym due ∙ e) at (reading-bounds (take got buf) ended) in
       rw (length-take-le got buf (omega arith)) at bounds
 
-  pub has-read : {x : Input} → r ≡ x → Decided x → HasRead buf x
+  pub has-read : {x : Result Input Stage} → r ≡ x → Decided x → HasRead buf x
   has-read e d = record { got = got; ended = ended; within = omega arith; said = sym e ∙ due; decided = d }
 
-pub whole-there : {buf : List ℕ} {r : Input} {end n : ℕ} → HasRead buf r → r ≡ Whole end n → image_at end + n ≤ length buf
+pub whole-there : {buf : List ℕ} {r : Result Input Stage} {end n : ℕ} → HasRead buf r → r ≡ Ok (Whole end n) → image_at end + n ≤ length buf
 whole-there {buf} {r} {end} {n} a e =
-    let bounds : Bounds (take a.got buf) a.ended (Whole end n) = rw (sym a.said ∙ e) at (reading-bounds (take a.got buf) a.ended) in
+    let bounds : Bounds (take a.got buf) a.ended (Ok (Whole end n)) = rw (sym a.said ∙ e) at (reading-bounds (take a.got buf) a.ended) in
     omega (arith, length-take-le a.got buf a.within)
 
 -- how often it can be read on, and one more before the end

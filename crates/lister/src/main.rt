@@ -9,17 +9,16 @@ mod rows;
 ghost use Rattle.std.specs.Prelude.{◌≤◌, length};
 ghost use Rattle.lister.specs.Input.{image_at};
 
-use image::Examined;
 use input::{Input, LENGTH_SIZE, LONGEST};
 use std::io;
 
 fn main(rt: HostRuntime) -> io::Result<()> {
     let mut buf = [0u8; LONGEST];
     match input::read(&mut rt.stdin(), &mut buf)? {
-        Input::Whole(end, n) => list(&rt, &buf[..end + LENGTH_SIZE + n], end),
-        Input::Refused(stage) => print::refusal(&rt, stage),
+        Ok(Input::Whole(end, n)) => list(&rt, &buf[..end + LENGTH_SIZE + n], end),
+        Err(stage) => print::refusal(&rt, stage),
         // not an answer of read, which reads on
-        Input::More(_) => Ok(()),
+        Ok(Input::More(_)) => Ok(()),
     }
 }
 
@@ -30,8 +29,8 @@ fn list(rt: &impl Print, input: &[u8], end: usize) -> io::Result<()>
     let at = end + LENGTH_SIZE;
     let img = &input[at..];
     match image::examine(&input[..end], img) {
-        Examined::Refused(stage) => print::refusal(rt, stage),
-        Examined::Ready(z, counts) => {
+        Err(stage) => print::refusal(rt, stage),
+        Ok((z, counts)) => {
             print::heading(rt)?;
             rows::all(rt, z, img)?;
             print::totals(rt, counts)

@@ -1,23 +1,19 @@
 // Lines on standard output. What stands in each is proved; that it is written is not. A write that fails is returned.
-ghost use Rattle.text.specs.Line.{Reads, LengthFits};
+ghost use Rattle.text.specs.Line.{Reads};
 ghost use Rattle.lister.specs.Printed.{refusal_text, totals_text};
 
 use image::{Counts, Stage};
 use std::io;
 use text::Line;
 
-pub fn line(rt: &impl Print, l: Line) -> io::Result<()>
-    requires { LengthFits l }
-{
-    let n = l.len;
-    let bytes = l.bytes;
-    rt.write_all(&bytes[..n])
+pub fn line(rt: &impl Print, l: Line) -> io::Result<()> {
+    rt.write_all(l.text.as_slice())
 }
 
 fn refusal_line(stage: Stage) -> Line
     ensures { Reads (refusal_text stage) result }
 {
-    text::refusal_line(image::numbers::stage_number(stage) as u64)
+    text::refusal_line(u32::from(stage) as u64)
 }
 
 fn totals_line(counts: Counts) -> Line

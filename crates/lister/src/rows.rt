@@ -7,7 +7,7 @@ ghost use Rattle.lister.specs.Printed.{row_text};
 
 use crate::print;
 use entries::Live;
-use image::cursor::{LiveCursor, Step};
+use image::cursor::LiveCursor;
 use layout::Shape;
 use std::io;
 use text::Line;
@@ -24,11 +24,9 @@ pub fn all(rt: &impl Print, z: Shape, img: &[u8]) -> io::Result<()>
     requires { Framed z (length img.now) × ChainTiers z img.now }
 {
     let mut c = LiveCursor::first(z);
-    loop {
-        let Step::At(e, after) = c.step(z, img) else {
-            return Ok(());
-        };
+    while let Some((e, after)) = c.step(z, img) {
         print::line(rt, row_line(e))?;
         c = after;
     }
+    Ok(())
 }

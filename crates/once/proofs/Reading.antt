@@ -5,6 +5,7 @@ use mathlib.Core.List.{List, Memᴰ}
 use mathlib.Core.Logic.{◌≢◌}
 use mathlib.Core.Bool.{true, false}
 use native.Mathlib.Omega.{arith}
+use Rattle.std.specs.Prelude.{Option, Some, None}
 use lib.ListN.{length, take, drop}
 use Rattle.words.specs.Bytes.{cut}
 use Rattle.xxh64.specs.Hash.{xxh64}
@@ -14,8 +15,6 @@ use Rattle.layout.specs.FramedTier.{FramedTier, FramedSlot}
 use Rattle.chains.specs.Chains.{chain}
 use Rattle.entries.specs.declared.Entry.{Entry}
 use Rattle.entries.specs.declared.Part.{Part}
-use Rattle.entries.specs.declared.Stored.{Stored}
-use Rattle.entries.specs.declared.Stored.TheVariants.{Whole, Broken}
 use Rattle.entries.specs.Keys.{slot_key, slot_chunk}
 use Rattle.entries.specs.Stored.{stored, entry_of, key_of}
 use Rattle.entries.specs.Telling.{KeyPart}
@@ -56,9 +55,9 @@ module _ {z : Shape} {img : List ℕ} {s t : ℕ} where
     looks = ((r.slots_fit t m).slots_fit.full j h full).hashed.lookup_agrees
 
 -- an entry that can be read is there
-is_whole : (r : Stored) → IsWhole r → (e : Entry) × (r ≡ Whole e)
-is_whole (Whole e) w = (e, refl)
-is_whole Broken w = absurd w
+is_whole : (r : Option Entry) → IsWhole r → (e : Entry) × (r ≡ Some e)
+is_whole (Some e) w = (e, refl)
+is_whole None w = absurd w
 
 -- ---- the number of a stored key
 
@@ -74,7 +73,7 @@ module _ {z : Shape} {img : List ℕ} {s t j v : ℕ} (k : HoldsKey z img s t j 
 
     pub holds-whole : WholeIn z img t c
     holds-whole =
-        let e : (e : Entry) × (stored z img t c ≡ Whole e) =
+        let e : (e : Entry) × (stored z img t c ≡ Some e) =
         is_whole (stored z img t c) (subst (λ (x : ℕ). IsWhole (stored z img t x)) (sym chunk-is) k.slot.fits.whole) in
         let tier : ChainedTier z img s t = k.slot.slot.tier in
         record { tier = record { framed = tier.chains.framed; tier_in = tier.tier_in }; entry = e.0; whole = e.1 }

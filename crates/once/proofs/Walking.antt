@@ -14,8 +14,9 @@ use Rattle.layout.specs.declared.Shape.{Shape}
 use Rattle.chains.specs.Chains.{chain, next_of}
 use Rattle.search.specs.Rules.{KeysOnce}
 use Rattle.search.specs.Asking.{FittingSlot}
-use Rattle.gather.specs.declared.Met.{Met}
-use Rattle.gather.specs.declared.Met.TheVariants.{Again, Fresh}
+use Rattle.std.specs.Prelude.{Option, Some, None, Result, Ok, Err, unwrap_or}
+use Rattle.std.specs.Option.{MatchOption}
+use Rattle.gather.specs.declared.Stopped.{Stopped}
 use Rattle.gather.specs.Once.{Twin}
 use Rattle.gather.specs.Rows.{Place, InRows}
 use Rattle.gather.proofs.Adding.{found, lacks, takes, adds}
@@ -23,29 +24,43 @@ use Rattle.gather.proofs.Meeting.{passed_none, passed-same, passed-twin, passed-
 use Rattle.gather.proofs.Rows.{begins, begins-only, ends, ends-only, one-there}
 use Rattle.once.specs.declared.Sharing.{Sharing}
 use Rattle.once.specs.Refs.{ref_to, meant, SameKey, InPass, ref_table, seek_ref}
-use Rattle.once.specs.Walk.{before, Keeps, MetUpTo, MetThrough, MetAll, MetSays, NextInPass}
-use Rattle.once.specs.Asking.{HasPlaces, ReadChain, ReadPass, ReadTier, CanSeek, CanMeet, CanWalk, CanPass}
+use Rattle.once.specs.Walk.{before, Keeps, MetUpTo, MetThrough, MetAll, StopSays, MetSays, NextInPass}
+use Rattle.once.specs.Asking.{HasPlaces, ReadChain, ReadPass, ReadTier, ReadSlot, ReadFrom, CanSeek, CanMeet, CanWalk, CanPass}
 use Rattle.once.proofs.Refs.{tier-back, slot-back, ref-full, tests, starts, lawful}
 use Rattle.once.proofs.Reading.{chain-tier, fitting-slot, looks}
 use Rattle.once.proofs.Tiers.{before-not, before_in, AlongTiers, tiers-start, tiers-end, tiers_in_lem, tiers-turn, tiers-before}
 
 -- ---- what an answer says, with the equation that it is taken by
 
-module _ (z : Shape) (img : List ℕ) (by : Sharing) (s : ℕ) (P : Place → Type 0) (m : List ℕ) (r : Met) (says : MetSays z img by s P m r) where
-  pub says-again : r ≡ Again → KeysOnce z img s → ⊥
-  says-again e = let y : MetSays z img by s P m Again = subst (MetSays z img by s P m) e says in y
+module _ (z : Shape) (img : List ℕ) (by : Sharing) (s : ℕ) (P : Place → Type 0) (m : List ℕ) (r : Result ℕ Stopped)
+    (says : MetSays z img by s P m r) where
+  pub says-stopped : (why : Stopped) → r ≡ Err why → StopSays z img by s why
+  says-stopped why e = subst (MetSays z img by s P m) e says
 
-  pub says-fresh : (left : ℕ) → r ≡ Fresh left → Keeps z img by m left P
-  says-fresh left e = let y : MetSays z img by s P m (Fresh left) = subst (MetSays z img by s P m) e says in y
+  pub says-fresh : (left : ℕ) → r ≡ Ok left → Keeps z img by m left P
+  says-fresh left e = let y : MetSays z img by s P m (Ok left) = subst (MetSays z img by s P m) e says in y
 
 same-places : {m m₀ : List ℕ} → length m ≡ length m₀ → HasPlaces m₀ → HasPlaces m
 same-places e h = record { two = rw e h.two; power = rw e h.power; few = rw e h.few }
 
--- ---- the loop of `next_in_pass`
+-- ---- what `next_in_pass` finds
 
 module _ (z : Shape) (img : List ℕ) (by : Sharing) (p t from : ℕ) where
   open z use {settings}
   open settings use {slots}
+
+  pub reads-slot : {s : ℕ} → ReadFrom z img by s t from → (j : ℕ) → j < slots → ReadSlot z img by s t j
+  reads-slot c j h = record { tier = c.tier; slot_in = h }
+
+  -- the first that it takes by the hash, where there is one
+  pub next-from : (r : Option ℕ) → from ≤ slots
+      → MatchOption r ((k : ℕ) → from ≤ k → k < slots → InPass z img by p t k → ⊥)
+      (λ i. (from ≤ i) × (i < slots) × InPass z img by p t i × ((k : ℕ) → from ≤ k → k < i → InPass z img by p t k → ⊥))
+      → NextInPass z img by p t from (unwrap_or r slots)
+  next-from None h n = record { not_before = h; low = omega arith; skipped = n; takes = λ l. absurd (omega arith) }
+  next-from (Some i) h m = record { not_before = m.0; low = omega (arith, m.1); skipped = m.3; takes = λ _. m.2 }
+
+  -- the loop of `next_by_lookup`
 
   -- the pass takes none of the slots below j
   pub record Skipping (j : ℕ) : Type 0 where
@@ -71,8 +86,14 @@ module _ (z : Shape) (img : List ℕ) (by : Sharing) (p t from : ℕ) where
     pub skipping_found : InPass z img by p t j → NextInPass z img by p t from j
     skipping_found q = record { not_before = w.not_before; low = w.low; skipped = w.skipped; takes = λ _. q }
 
-    pub skipping_ends : slots ≤ j → NextInPass z img by p t from j
-    skipping_ends h = record { not_before = w.not_before; low = w.low; skipped = w.skipped; takes = λ l. absurd (omega arith) }
+    pub skipping_ends : slots ≤ j → NextInPass z img by p t from slots
+    skipping_ends h =
+        record {
+          not_before = omega (arith, w.not_before, w.low);
+          low = omega arith;
+          skipped = λ k l x. w.skipped k l (omega arith);
+          takes = λ l. absurd (omega arith);
+        }
 
 module _ (z : Shape) (img : List ℕ) (by : Sharing) (p s t : ℕ) where
   open z use {settings}

@@ -1,12 +1,12 @@
 -- What the passes over a segment's chain keep and answer. The definitions serve contracts alone.
-use Rattle.std.specs.Prelude.{ℕ, ◌≤◌, ◌<◌, List, [], ◌∷◌, ◌++◌, Bool, true, false, eqb, length}
+use Rattle.std.specs.Prelude.{ℕ, ◌≤◌, ◌<◌, List, [], ◌∷◌, ◌++◌, Bool, true, false, eqb, length, Result, Ok, Err}
 use Rattle.lists.specs.Quantify.{Below}
 use Rattle.layout.specs.declared.Shape.{Shape}
 use Rattle.chains.specs.Chains.{chain}
 use Rattle.search.specs.Rules.{KeysOnce}
 use Rattle.search.specs.Landing.{LandsAt}
-use Rattle.gather.specs.declared.Met.{Met}
-use Rattle.gather.specs.declared.Met.TheVariants.{Again, Full, Fresh}
+use Rattle.gather.specs.declared.Stopped.{Stopped}
+use Rattle.gather.specs.declared.Stopped.TheVariants.{Again, Full}
 use Rattle.gather.specs.Once.{Once, Passed}
 use Rattle.gather.specs.Rows.{Place, InRows, Walked}
 use Rattle.once.specs.declared.Sharing.{Sharing}
@@ -41,11 +41,15 @@ module _ (z : Shape) (img : List ℕ) (by : Sharing) where
     PassSays true = Once (SameKey z img) MetAll
     PassSays false = KeysOnce z img s → ⊥
 
-  -- some key has two slots; it is not known; or none of those that P picks has, and m stands for these
-  abbrev pub MetSays : ℕ → (Place → Type 0) → List ℕ → Met → Type 0
-  MetSays s P m Again = KeysOnce z img s → ⊥
-  MetSays s P m Full = Unit {0}
-  MetSays s P m (Fresh left) = Keeps m left P
+  -- some key has two slots, or it is not known
+  abbrev pub StopSays : ℕ → Stopped → Type 0
+  StopSays s Again = KeysOnce z img s → ⊥
+  StopSays s Full = Unit {0}
+
+  -- why the pass stopped; or none of those that P picks has two, and m stands for these
+  abbrev pub MetSays : ℕ → (Place → Type 0) → List ℕ → Result ℕ Stopped → Type 0
+  MetSays s P m (Err why) = StopSays s why
+  MetSays s P m (Ok left) = Keeps m left P
 
   -- the search for each key of tier t that pass p takes ends in its own slot
   abbrev pub PassLands : ℕ → ℕ → Type 0

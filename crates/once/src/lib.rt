@@ -5,19 +5,20 @@
 pub mod slow;
 pub mod table;
 
-ghost use Rattle.std.specs.Prelude.{◌≡◌, false, ◌+◌, ◌≤◌};
+ghost use Rattle.std.specs.Prelude.{◌≡◌, false, ◌+◌, ◌≤◌, ◌<◌};
 ghost use Rattle.lists.specs.Decide.{Decides};
-ghost use Rattle.layout.specs.FramedTier.{FramedTier};
+ghost use Rattle.settings.specs.Rules.{PowerOfTwo};
 ghost use Rattle.search.specs.Rules.{KeysOnce};
 ghost use Rattle.once.specs.Refs.{InPass};
 ghost use Rattle.once.specs.Walk.{NextInPass, MetUpTo, MetThrough, MetAll, MetSays, PassSays};
 ghost use Rattle.once.specs.Asking.{FittingChain, ReadChain, ReadPass, ReadFrom, ReadSlot, CanMeet, CanWalk, CanPass};
 
-use gather::Met;
-use layout::Shape;
+use gather::Stopped;
+use layout::{Header, Shape};
 
 // How the full slots of a chain are shared out: a number of the key gives the pass in its low bits and the place in the table in those
-// above. The number is the lookup key, or where that has too few bits more of the hash.
+// above. The number is the lookup key, or where that has too few bits more of the hash:
+// a flag says which, since the definitions speak of it and a closure for the number would be no plainer.
 #[derive(Clone, Copy)]
 pub struct Sharing {
     pub byHash: bool,
@@ -45,7 +46,8 @@ fn in_pass(z: Shape, img: &[u8], by: Sharing, p: u64, s: usize, t: usize, j: usi
     entries::keys::low_bits(table::number_at(z, img, by, s, t, j, v), by.passBits) == p
 }
 
-// The same where the lookup key is the number: no entry is read.
+// The same where the lookup key is the number: no entry is read. A test of its own, since in one loop with the hash the check of 16 MiB of full
+// tiers took six times as long: only in a small loop is the tier's offset computed once.
 fn lookup_in_pass(z: Shape, img: &[u8], by: Sharing, p: u64, s: usize, t: usize, j: usize) -> bool
     requires { ReadSlot z img.now by s t j × (by.byHash ≡ false) }
     ensures { Decides result (InPass z img.now by p t j) }
@@ -60,22 +62,8 @@ fn lookup_in_pass(z: Shape, img: &[u8], by: Sharing, p: u64, s: usize, t: usize,
     true
 }
 
-// The first slot of tier t from `from` on whose key pass p takes; the number of slots where there is none.
-fn next_by_hash(z: Shape, img: &[u8], by: Sharing, p: u64, s: usize, t: usize, from: usize) -> usize
-    requires { ReadFrom z img.now by s t from }
-    ensures { NextInPass z img.now by p t from result }
-{
-    let mut j = from;
-    while j < z.settings.slots {
-        if in_pass(z, img, by, p, s, t, j) {
-            return j;
-        }
-        j += 1;
-    }
-    j
-}
-
-// The same by the lookup keys. The loop is small, so that what does not change in it is computed once.
+// The first slot of tier t from `from` on whose key pass p takes, by the lookup keys; the number of slots where there is none. A loop of its own:
+// as a `find` of the range the compiler computes the tier's offset, with its division, anew for each slot.
 fn next_by_lookup(
     z: Shape,
     img: &[u8],
@@ -88,16 +76,15 @@ fn next_by_lookup(
     requires { ReadFrom z img.now by s t from × (by.byHash ≡ false) }
     ensures { NextInPass z img.now by p t from result }
 {
-    let mut j = from;
-    while j < z.settings.slots {
+    for j in from..z.settings.slots {
         if lookup_in_pass(z, img, by, p, s, t, j) {
             return j;
         }
-        j += 1;
     }
-    j
+    z.settings.slots
 }
 
+// The same by the number that the pass goes by.
 pub fn next_in_pass(
     z: Shape,
     img: &[u8],
@@ -111,12 +98,15 @@ pub fn next_in_pass(
     ensures { NextInPass z img.now by p t from result }
 {
     if by.byHash {
-        return next_by_hash(z, img, by, p, s, t, from);
+        return (from..z.settings.slots)
+            .find(|j| in_pass(z, img, by, p, s, t, *j))
+            .unwrap_or(z.settings.slots);
     }
     next_by_lookup(z, img, by, p, s, t, from)
 }
 
-// Slot j of tier t is looked up among those that pass p met before, and put into the table; `left` more may be put in.
+// Slot j of tier t is looked up among those that pass p met before, and put into the table, where `left` more may be put in: how many then
+// still may.
 fn meet(
     z: Shape,
     img: &[u8],
@@ -127,19 +117,19 @@ fn meet(
     j: usize,
     table: &mut [u32],
     left: usize,
-) -> Met
+) -> Result<usize, Stopped>
     requires { CanMeet z img.now by p s t j table.old left }
     ensures { MetSays z img.now by s (MetUpTo z img.now by p s t (j + 1)) table.new result }
 {
     let at = table::seek(z, img, by, s, t, j, table);
     if table[at] != 0 {
-        return Met::Again;
+        return Err(Stopped::Again);
     }
     if left == 0 {
-        return Met::Full;
+        return Err(Stopped::Full);
     }
     table[at] = (t * z.settings.slots + j) as u32;
-    Met::Fresh(left - 1)
+    Ok(left - 1)
 }
 
 // The slots of tier t.
@@ -152,32 +142,28 @@ fn pass_tier(
     t: usize,
     table: &mut [u32],
     left: usize,
-) -> Met
+) -> Result<usize, Stopped>
     requires { CanWalk z img.now by p s t table.old left }
     ensures { MetSays z img.now by s (MetThrough z img.now by p s t) table.new result }
 {
     let mut rest = left;
     let mut j = next_in_pass(z, img, by, p, s, t, 0);
     while j < z.settings.slots {
-        let met = meet(z, img, by, p, s, t, j, table, rest);
-        match met {
-            Met::Again => {
-                return Met::Again;
-            }
-            Met::Full => {
-                return Met::Full;
-            }
-            Met::Fresh(more) => {
-                rest = more;
-            }
-        }
+        rest = meet(z, img, by, p, s, t, j, table, rest)?;
         j = next_in_pass(z, img, by, p, s, t, j + 1);
     }
-    Met::Fresh(rest)
+    Ok(rest)
 }
 
 // The tiers of segment s's chain.
-fn pass_chain(z: Shape, img: &[u8], by: Sharing, p: u64, s: usize, table: &mut [u32]) -> Met
+fn pass_chain(
+    z: Shape,
+    img: &[u8],
+    by: Sharing,
+    p: u64,
+    s: usize,
+    table: &mut [u32],
+) -> Result<usize, Stopped>
     requires { CanPass z img.now by s table.old }
     ensures { MetSays z img.now by s (MetAll z img.now by p s) table.new result }
 {
@@ -185,21 +171,10 @@ fn pass_chain(z: Shape, img: &[u8], by: Sharing, p: u64, s: usize, table: &mut [
     let mut rest = table.len() / 4 * 3;
     let mut t = s + 1;
     while t != 0 {
-        let met = pass_tier(z, img, by, p, s, t, table, rest);
-        match met {
-            Met::Again => {
-                return Met::Again;
-            }
-            Met::Full => {
-                return Met::Full;
-            }
-            Met::Fresh(more) => {
-                rest = more;
-            }
-        }
-        t = layout::read::next_of(z, img, t) as usize;
+        rest = pass_tier(z, img, by, p, s, t, table, rest)?;
+        t = layout::read::shared(z, img, t, Header::NextTier) as usize;
     }
-    Met::Fresh(rest)
+    Ok(rest)
 }
 
 // Whether no two slots of segment s's chain that pass p takes have the same key. The table is empty.
@@ -207,44 +182,20 @@ fn pass(z: Shape, img: &[u8], by: Sharing, p: u64, s: usize, table: &mut [u32]) 
     requires { CanPass z img.now by s table.old }
     ensures { PassSays z img.now by p s result }
 {
-    let met = pass_chain(z, img, by, p, s, table);
-    match met {
-        Met::Again => false,
-        Met::Fresh(_) => true,
-        Met::Full => slow::chain_lands(z, img, by, p, s),
+    match pass_chain(z, img, by, p, s, table) {
+        Ok(_) => true,
+        Err(Stopped::Again) => false,
+        Err(Stopped::Full) => slow::chain_lands(z, img, by, p, s),
     }
 }
 
-fn large_pass(z: Shape, img: &[u8], by: Sharing, p: u64, s: usize) -> bool
-    requires { ReadPass z img.now by s }
+// The same with an empty table of N places.
+fn fresh_pass<const N: usize>(z: Shape, img: &[u8], by: Sharing, p: u64, s: usize) -> bool
+    requires { ReadPass z img.now by s × (1 < N) × PowerOfTwo N × (N ≤ 65536) }
     ensures { PassSays z img.now by p s result }
 {
-    let mut table = [0u32; 16384];
+    let mut table = [0u32; N];
     pass(z, img, by, p, s, &mut table)
-}
-
-fn small_pass(z: Shape, img: &[u8], by: Sharing, p: u64, s: usize) -> bool
-    requires { ReadPass z img.now by s }
-    ensures { PassSays z img.now by p s result }
-{
-    let mut table = [0u32; 512];
-    pass(z, img, by, p, s, &mut table)
-}
-
-// The full slots of tier t.
-fn full_in(z: Shape, img: &[u8], t: usize) -> usize
-    requires { FramedTier z img.now t }
-    ensures { result ≤ z.settings.slots }
-{
-    let mut n = 0;
-    let mut j = 0;
-    while j < z.settings.slots {
-        if layout::read::slot(z, img, t, j) != 0 {
-            n += 1;
-        }
-        j += 1;
-    }
-    n
 }
 
 // The full slots of segment s's chain: how many entries the passes share.
@@ -255,8 +206,8 @@ fn entries_in(z: Shape, img: &[u8], s: usize) -> usize
     let mut n = 0;
     let mut t = s + 1;
     while t != 0 {
-        n = n + full_in(z, img, t);
-        t = layout::read::next_of(z, img, t) as usize;
+        n = n + entries::read::full_slots(z, img, t);
+        t = layout::read::shared(z, img, t, Header::NextTier) as usize;
     }
     n
 }
@@ -265,14 +216,7 @@ fn entries_in(z: Shape, img: &[u8], s: usize) -> usize
 fn pass_bits(n: usize) -> usize
     ensures { result ≤ 9 }
 {
-    let mut bits = 0;
-    while bits < 9 {
-        if n <= IN_A_PASS << bits {
-            return bits;
-        }
-        bits += 1;
-    }
-    bits
+    (0..9).find(|bits| n <= IN_A_PASS << *bits).unwrap_or(9)
 }
 
 // How n entries are shared out. The lookup key does where it has bits enough for the pass and the place in the table.
@@ -297,9 +241,9 @@ fn one_pass(z: Shape, img: &[u8], by: Sharing, p: u64, s: usize, n: usize) -> bo
     ensures { PassSays z img.now by p s result }
 {
     if n <= IN_A_SMALL_PASS {
-        return small_pass(z, img, by, p, s);
+        return fresh_pass::<512>(z, img, by, p, s);
     }
-    large_pass(z, img, by, p, s)
+    fresh_pass::<16384>(z, img, by, p, s)
 }
 
 // Whether no key has two slots in segment s's chain.
@@ -310,12 +254,10 @@ pub fn keys_once(z: Shape, img: &[u8], s: usize) -> bool
     let n = entries_in(z, img, s);
     let by = share_out(z, n);
     let passes = 1u64 << by.passBits;
-    let mut p = 0;
-    while p < passes {
+    for p in 0..passes {
         if !one_pass(z, img, by, p, s, n) {
             return false;
         }
-        p += 1;
     }
     true
 }

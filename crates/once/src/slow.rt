@@ -8,7 +8,7 @@ ghost use Rattle.once.specs.Asking.{ReadTier, ReadPass, FirstAlone};
 ghost use Rattle.once.specs.Walk.{PassLands};
 
 use super::Sharing;
-use layout::Shape;
+use layout::{Header, Shape};
 
 // Whether the search for each key of tier t that pass p takes ends at the key's own slot.
 fn tier_lands(z: Shape, img: &[u8], by: Sharing, p: u64, s: usize, t: usize) -> bool
@@ -35,7 +35,7 @@ pub fn chain_lands(z: Shape, img: &[u8], by: Sharing, p: u64, s: usize) -> bool
         if !tier_lands(z, img, by, p, s, t) {
             return false;
         }
-        t = layout::read::next_of(z, img, t) as usize;
+        t = layout::read::shared(z, img, t, Header::NextTier) as usize;
     }
     true
 }
@@ -51,12 +51,12 @@ pub fn later_once(z: Shape, img: &[u8], s: usize) -> bool
         byHash: false,
         passBits: 0,
     };
-    let mut t = layout::read::next_of(z, img, s + 1) as usize;
+    let mut t = layout::read::shared(z, img, s + 1, Header::NextTier) as usize;
     while t != 0 {
         if !tier_lands(z, img, by, 0, s, t) {
             return false;
         }
-        t = layout::read::next_of(z, img, t) as usize;
+        t = layout::read::shared(z, img, t, Header::NextTier) as usize;
     }
     true
 }

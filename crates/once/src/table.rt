@@ -55,8 +55,7 @@ pub fn seek(z: Shape, img: &[u8], by: Sharing, s: usize, t: usize, j: usize, tab
         slot: place_of(by.passBits, number, table.len()),
         slots: table.len(),
     };
-    let mut left = table.len();
-    while 0 < left {
+    for _ in 0..table.len() {
         let at = cursor.slot;
         let w = table[at] as usize;
         if w == 0 {
@@ -66,7 +65,6 @@ pub fn seek(z: Shape, img: &[u8], by: Sharing, s: usize, t: usize, j: usize, tab
             return at;
         }
         cursor = cursor.step();
-        left -= 1;
     }
     cursor.slot
 }

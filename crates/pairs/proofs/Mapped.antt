@@ -18,12 +18,13 @@ use Rattle.chronicle_map.specs.Demands.{Accepted, Alters}
 use Rattle.chronicle_map.proofs.Refusing.{demand1}
 use Rattle.chronicle_map.proofs.Altering.{demand2}
 use Rattle.chronicle_map.proofs.Laws.{Looked, lookup-some, lookup-none, store_bytes}
-use Rattle.pairs.specs.declared.Asked.{Asked}
-use Rattle.pairs.specs.declared.Asked.TheVariants as asked
-use Rattle.pairs.specs.declared.SetAnswer.{SetAnswer}
-use Rattle.pairs.specs.declared.SetAnswer.TheVariants as set
+use Rattle.std.specs.Prelude.{None, Result, Ok, Err}
+use Rattle.chronicle_map.specs.declared.EditError.{EditError}
+use Rattle.pairs.specs.declared.AskError.TheVariants as ask
+use Rattle.pairs.specs.declared.SetError.{SetError}
+use Rattle.pairs.specs.declared.SetError.TheVariants as set
 use Rattle.pairs.specs.Pairs.{ChannelsFit, channels_fit?, pair_key, delay_record, most_negative, record_fits?, in_order}
-use Rattle.pairs.specs.Delays.{from_record, from_located, delay, Setting, refusing, unless_refused, set_delay, set_number}
+use Rattle.pairs.specs.Delays.{Asked, SetAnswer, stored as set_stored, from_record, from_located, delay, Setting, refusing, unless_refused, set_delay, set_number}
 use Rattle.pairs.proofs.Orders.{key-bytes, key_fits}
 use Rattle.pairs.proofs.Records.{record_bytes_lem}
 use Rattle.pairs.proofs.Answering.{ask_misfit, ask-fits, set_misfit, set-most, set-fits}
@@ -32,11 +33,11 @@ use Rattle.pairs.proofs.Answering.{ask_misfit, ask-fits, set_misfit, set-most, s
 
 -- what is answered for the key and record that the map has
 unfoldable pub from_map : ℕ → ℕ → Option Pair → Asked
-from_map a b none = asked.Absent
+from_map a b none = Ok None
 from_map a b (some p) = from_record a b p.value (record_fits? p.value)
 
 module _ (block img : List ℕ) (bytes : Bytes img) (accepted : Accepted block img) where
-  pub ask-unfit : (a b : ℕ) → (ChannelsFit a b → ⊥) → asked.BadPair ≡ delay block img a b
+  pub ask-unfit : (a b : ℕ) → (ChannelsFit a b → ⊥) → Err ask.BadPair ≡ delay block img a b
   ask-unfit a b n = ask_misfit block img a b refl accepted.0 (ap (λ (v : Verdict). v.outcome) accepted.1) n
 
   pub ask-map : (a b : ℕ) → ChannelsFit a b → delay block img a b ≡ from_map a b (map_get (map_of block img) (pair_key a b))
@@ -62,6 +63,11 @@ pub record AfterSet (block img : List ℕ) (a b : ℕ) (d : ℤ) (x : Setting) :
   pub own : set_number x.answer ≡ 0
       → map_get (map_of block x.image) (pair_key a b) ≡ some (record { key = pair_key a b; value = delay_record (in_order a b d) })
 
+-- the store's number
+pub stored-number : (x : Result (Unit {0}) EditError) → set_number (set_stored x) ≡ answer_number x
+stored-number (Ok _) = refl
+stored-number (Err e) = refl
+
 module _ (block img : List ℕ) (bytes : Bytes img) (accepted : Accepted block img) (a b : ℕ) (d : ℤ) where
   -- nothing was stored
   unchanged : (x : SetAnswer) → set_number x ≢ 0 → AfterSet block img a b d (record { answer = x; image = img })
@@ -73,7 +79,7 @@ module _ (block img : List ℕ) (bytes : Bytes img) (accepted : Accepted block i
 
     abbrev after : Setting
     after =
-        record { answer = set.Stored (store OnTheSpot block img (pair_key a b) value).answer; image = (store OnTheSpot block img (pair_key a b) value).image }
+        record { answer = set_stored (store OnTheSpot block img (pair_key a b) value).answer; image = (store OnTheSpot block img (pair_key a b) value).image }
 
     stored : answer_number (store OnTheSpot block img (pair_key a b) value).answer ≡ 0 → AfterSet block img a b d after
     stored e =
@@ -90,28 +96,29 @@ module _ (block img : List ℕ) (bytes : Bytes img) (accepted : Accepted block i
     not-stored : answer_number (store OnTheSpot block img (pair_key a b) value).answer ≢ 0 → AfterSet block img a b d after
     not-stored m =
         let e : (store OnTheSpot block img (pair_key a b) value).image ≡ img = (demand1 block img).store_refused OnTheSpot (pair_key a b) value m in
-        let answer : SetAnswer = set.Stored (store OnTheSpot block img (pair_key a b) value).answer in
-        subst (AfterSet block img a b d) (λ i. record { answer = answer; image = sym e i }) (unchanged answer m)
+        let answer : SetAnswer = set_stored (store OnTheSpot block img (pair_key a b) value).answer in
+        subst (AfterSet block img a b d) (λ i. record { answer = answer; image = sym e i })
+        (unchanged answer (λ z. m (sym (stored-number (store OnTheSpot block img (pair_key a b) value).answer) ∙ z)))
 
   -- what the check says comes first, and it says nothing here
-  first : {other : SetAnswer} → other ≡ unless_refused other (check block img).outcome
+  first : {other : SetError} → other ≡ unless_refused other (check block img).outcome
   first {other} = ap (λ (v : Verdict). unless_refused other v.outcome) (sym accepted.1)
 
-  pub set-unfit : (ChannelsFit a b → ⊥) → refusing img set.BadPair ≡ set_delay block img a b d
+  pub set-unfit : (ChannelsFit a b → ⊥) → refusing img (Err set.BadPair) ≡ set_delay block img a b d
   set-unfit n = set_misfit block img a b d n first
 
-  pub set-lowest : ChannelsFit a b → d ≡ most_negative → refusing img set.BadDelay ≡ set_delay block img a b d
+  pub set-lowest : ChannelsFit a b → d ≡ most_negative → refusing img (Err set.BadDelay) ≡ set_delay block img a b d
   set-lowest f e = set-most block img a b d f e first
 
   pub after-set : AfterSet block img a b d (set_delay block img a b d)
   after-set = by-pair (channels_fit? a b)
     where
       by_number : ChannelsFit a b → Dec (d ≡ most_negative) → AfterSet block img a b d (set_delay block img a b d)
-      by_number f (yes e) = subst (AfterSet block img a b d) (set-lowest f e) (unchanged set.BadDelay (λ (q : 12 ≡ 0). omega arith))
+      by_number f (yes e) = subst (AfterSet block img a b d) (set-lowest f e) (unchanged (Err set.BadDelay) (λ (q : 12 ≡ 0). omega arith))
       by_number f (no n) =
           let number : ℕ = answer_number (store OnTheSpot block img (pair_key a b) (delay_record (in_order a b d))).answer in
           subst (AfterSet block img a b d) (set-fits block img a b d f n) (⊎_elim (stored f n) (not-stored f n) (same_or number 0))
 
       by-pair : Dec (ChannelsFit a b) → AfterSet block img a b d (set_delay block img a b d)
-      by-pair (no n) = subst (AfterSet block img a b d) (set-unfit n) (unchanged set.BadPair (λ (q : 11 ≡ 0). omega arith))
+      by-pair (no n) = subst (AfterSet block img a b d) (set-unfit n) (unchanged (Err set.BadPair) (λ (q : 11 ≡ 0). omega arith))
       by-pair (yes f) = by_number f (ℤ_discrete d most_negative)

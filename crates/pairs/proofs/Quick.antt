@@ -3,11 +3,14 @@ use Prim.Native.Nat.{ℕ}
 use mathlib.Core.List.{List, [], ◌∷◌, Memᴰ}
 use mathlib.Core.Path.{◌≡◌, refl, ap, sym, ◌∙◌, subst}
 use native.Mathlib.Omega.{arith}
+use Rattle.std.specs.Prelude.{Ok, Err}
 use Rattle.lists.specs.Decide.{choose}
 use Rattle.lists.proofs.Lists.{member}
 use Rattle.lists.proofs.Decides.{choose-by, choose_no, choose_yes}
 use Rattle.words.specs.Bytes.{Bytes}
 use Rattle.layout.specs.declared.Shape.{Shape}
+use Rattle.std.specs.Prelude.{Result, Ok, Err}
+use Rattle.walk.specs.declared.Broken.{Broken}
 use Rattle.walk.specs.declared.WalkEnd.{WalkEnd}
 use Rattle.walk.specs.declared.WalkEnd.TheVariants as end
 use Rattle.image.specs.declared.Stage.{Stage}
@@ -15,26 +18,24 @@ use Rattle.image.specs.declared.Verdict.{Verdict}
 use Rattle.chronicle_map.specs.declared.Located.{Located}
 use Rattle.chronicle_map.specs.Demands.{Accepted}
 use Rattle.chronicle_map.proofs.Accepting.{Holds, accepted-holds}
-use Rattle.quick.specs.declared.Opened.{Opened}
-use Rattle.quick.specs.declared.Opened.TheVariants.{Ready, Refused}
-use Rattle.quick.specs.Quick.{opened, from_walk, quick_lookup}
+use Rattle.quick.specs.Quick.{Opened, opened, from_walk, quick_lookup}
 use Rattle.quick.proofs.Answering.{quick_refused, quick_by}
 use Rattle.quick.proofs.Agreeing.{holds_opened, quick_agrees}
-use Rattle.pairs.specs.declared.Asked.{Asked}
-use Rattle.pairs.specs.declared.Asked.TheVariants as asked
+use Rattle.std.specs.Prelude.{Result, Err}
+use Rattle.pairs.specs.declared.AskError.TheVariants as ask
 use Rattle.pairs.specs.Pairs.{ChannelsFit, channels_fit?, pair_key, record_fits?}
-use Rattle.pairs.specs.Delays.{from_record, from_located, ask_pair, ask_checked, delay, asked_reply}
+use Rattle.pairs.specs.Delays.{Asked, from_record, from_located, ask_pair, ask_checked, delay, asked_reply}
 use Rattle.pairs.specs.Quick.{quick_pair, quick_opened, quick_delay, QuickDelays}
 use Rattle.pairs.proofs.Orders.{key_fits}
 use Rattle.pairs.proofs.Refusing.{ask-refused}
 
 module _ (block img : List ℕ) (a b : ℕ) where
   module _ {o : Opened} (eo : o ≡ opened block img) where
-    pub quick_ask-refused : (s : Stage) → o ≡ Refused s → asked.Refused s ≡ quick_delay block img a b
+    pub quick_ask-refused : (s : Stage) → o ≡ Err s → Err (ask.Refused s) ≡ quick_delay block img a b
     unfolding quick_delay quick_opened
     quick_ask-refused s e = ap (quick_opened block img a b) (sym e ∙ eo)
 
-    pub quick_ask_misfit : (z : Shape) → o ≡ Ready z → (ChannelsFit a b → ⊥) → asked.BadPair ≡ quick_delay block img a b
+    pub quick_ask_misfit : (z : Shape) → o ≡ Ok z → (ChannelsFit a b → ⊥) → Err ask.BadPair ≡ quick_delay block img a b
     unfolding quick_delay quick_opened quick_pair
     quick_ask_misfit z e n = sym (choose_no (channels_fit? a b) _ _ n) ∙ ap (quick_opened block img a b) (sym e ∙ eo)
 
@@ -42,10 +43,10 @@ module _ (block img : List ℕ) (a b : ℕ) where
   quick_fits : ChannelsFit a b → (o : Opened) → opened block img ≡ o
       → quick_opened block img a b o ≡ from_located img a b (quick_lookup block img (pair_key a b))
   unfolding quick_opened quick_pair from_located
-  quick_fits f (Refused s) e = ap (from_located img a b) (quick_refused block img (pair_key a b) refl s e)
-  quick_fits f (Ready z) e = choose_yes (channels_fit? a b) _ _ f
+  quick_fits f (Err s) e = ap (from_located img a b) (quick_refused block img (pair_key a b) refl s e)
+  quick_fits f (Ok z) e = choose_yes (channels_fit? a b) _ _ f
 
-  pub quick_ask-looked : ChannelsFit a b → {key : List ℕ} → key ≡ pair_key a b → {l : Located} → l ≡ quick_lookup block img key → {r : Asked}
+  pub quick_ask-looked : ChannelsFit a b → {key : List ℕ} → key ≡ pair_key a b → {l : Result Located Stage} → l ≡ quick_lookup block img key → {r : Asked}
       → r ≡ from_located img a b l → r ≡ quick_delay block img a b
   unfolding quick_delay
   quick_ask-looked f ek el er =
@@ -65,11 +66,11 @@ module _ (block img : List ℕ) (a b : ℕ) where
   record_asked r =
       choose-by (record_fits? r) _ _ IsQuickAsk (λ _. member quick_ask_numbers 6 (omega arith)) (λ _. member quick_ask_numbers 0 (omega arith))
 
-  walk-asked : (w : WalkEnd) → IsQuickAsk (from_located img a b (from_walk w))
+  walk-asked : (w : Result WalkEnd Broken) → IsQuickAsk (from_located img a b (from_walk w))
   unfolding from_walk from_located
-  walk-asked (end.Found t j e) = record_asked _
-  walk-asked (end.Absent t j) = member quick_ask_numbers 1 (omega arith)
-  walk-asked end.Broken = member quick_ask_numbers 7 (omega arith)
+  walk-asked (Ok (end.Found t j e)) = record_asked _
+  walk-asked (Ok (end.Absent t j)) = member quick_ask_numbers 1 (omega arith)
+  walk-asked (Err _) = member quick_ask_numbers 7 (omega arith)
 
   looked-asked : IsQuickAsk (from_located img a b (quick_lookup block img (pair_key a b)))
   unfolding from_located
@@ -79,16 +80,17 @@ module _ (block img : List ℕ) (a b : ℕ) where
 
   quick_asked : (o : Opened) → opened block img ≡ o → IsQuickAsk (quick_opened block img a b o)
   unfolding quick_opened quick_pair from_located
-  quick_asked (Refused s) e =
-      subst (λ (l : Located). IsQuickAsk (from_located img a b l)) (sym (quick_refused block img (pair_key a b) refl s e)) looked-asked
-  quick_asked (Ready z) e = choose-by (channels_fit? a b) _ _ IsQuickAsk (λ _. member quick_ask_numbers 5 (omega arith)) (λ _. looked-asked)
+  quick_asked (Err s) e =
+      subst (λ (l : Result Located Stage). IsQuickAsk (from_located img a b l)) (sym (quick_refused block img (pair_key a b) refl s e)) looked-asked
+  quick_asked (Ok z) e = choose-by (channels_fit? a b) _ _ IsQuickAsk (λ _. member quick_ask_numbers 5 (omega arith)) (λ _. looked-asked)
 
   -- ---- on an accepted image
 
   pair-agrees : Holds block img → quick_pair block img a b (channels_fit? a b) ≡ ask_pair block img a b (channels_fit? a b)
   unfolding quick_pair ask_pair
   pair-agrees h =
-      ap (λ (l : Located). choose (channels_fit? a b) (λ _. asked.BadPair) (λ _. from_located img a b l)) (quick_agrees block img h (pair_key a b))
+      ap (λ (l : Result Located Stage). choose (channels_fit? a b) (λ _. Err ask.BadPair) (λ _. from_located img a b l))
+      (quick_agrees block img h (pair_key a b))
 
   ask-agrees : Bytes img → Accepted block img → quick_delay block img a b ≡ delay block img a b
   unfolding quick_delay quick_opened delay ask_checked

@@ -1,5 +1,5 @@
 -- The record of a delay: four bytes, which read back as the delay.
-use Prim.Native.Nat.{ℕ, zero, suc, ◌≤◌, ◌<◌}
+use Prim.Native.Nat.{ℕ, zero, suc, ◌/◌, ◌%◌, ◌≤◌, ◌<◌}
 use mathlib.Core.List.{List, [], ◌∷◌}
 use mathlib.Core.Path.{◌≡◌, refl, ap, sym, ◌∙◌, subst}
 use mathlib.Core.Logic.{◌≢◌, ⊎_elim}
@@ -7,6 +7,8 @@ use native.Mathlib.Omega.{arith}
 use lib.IntN.{ℤ}
 use mir.Syntax.{w32}
 use mir.Val.{SFits, to_z, of_z}
+use native.Mathlib.Numerals.{towards_numerals}
+use Rattle.std.specs.Int.{to_le_bytes, from_le_bytes}
 use mir.ValLaws.{to_z-of_z, of_z_fits}
 use Rattle.lists.specs.Cases.{lt-or}
 use Rattle.words.specs.Bytes.{Bytes}
@@ -25,9 +27,25 @@ over_zeros : (v : ℕ) → put_le zeros 0 4 v ≡ le_bytes 4 v
 unfolding put_le le_bytes
 over_zeros v = refl
 
-pub record_of : (d : ℤ) {v : ℕ} → v ≡ of_z w32 d → put_le zeros 0 4 v ≡ delay_record d
+to_le_bytes-four : (v : ℕ) → to_le_bytes w32 v ≡ le_bytes 4 v
+unfolding le_bytes
+to_le_bytes-four v =
+    let two : v / 65536 % 256 ≡ v / 256 / 256 % 256 = omega arith in
+    let three : v / 16777216 % 256 ≡ v / 256 / 256 / 256 % 256 = omega arith in
+    λ i. v % 256 ∷ v / 256 % 256 ∷ two i ∷ three i ∷ []
+
+from_le_bytes-four : (bs : List ℕ) → from_le_bytes w32 bs ≡ le bs 0 4
+unfolding le
+from_le_bytes-four bs = simp towards_numerals (omega arith)
+
+-- d is given as a local holds it
+pub record_of : (d : ℤ) → SFits w32 d → to_le_bytes w32 (of_z w32 (to_z w32 (of_z w32 d))) ≡ delay_record d
 unfolding delay_record
-record_of d {v} e = over_zeros v ∙ ap (le_bytes 4) e
+record_of d f = to_le_bytes-four _ ∙ ap (λ (x : ℤ). le_bytes 4 (of_z w32 x)) (to_z-of_z w32 d f)
+
+pub delay_of : (r : List ℕ) {bs : List ℕ} {x : ℤ} → bs ≡ r → x ≡ to_z w32 (from_le_bytes w32 bs) → x ≡ record_delay r
+unfolding record_delay
+delay_of r {bs} e ex = ex ∙ ap (to_z w32) (from_le_bytes-four bs ∙ ap (λ (l : List ℕ). le l 0 4) e)
 
 -- x is d with the sign of the order, both as locals hold them
 pub record_in_order : (a b : ℕ) {d x : ℤ} → SFits w32 d → SFits w32 x → x ≡ in_order a b (to_z w32 (of_z w32 d)) → {bytes : List ℕ}

@@ -2,7 +2,7 @@
 use Prim.Native.Nat.{ℕ, ◌<◌}
 use mathlib.Core.List.Memᴰ
 use mathlib.Core.List.{List, [], ◌∷◌, ◌++◌, Memᴰ}
-use mathlib.Core.Path.{◌≡◌, refl, ap}
+use mathlib.Core.Path.{◌≡◌, refl, ap, ◌∙◌}
 use mathlib.Core.Logic.{◌≢◌, ⊎_elim}
 use mathlib.Core.Bool.{not}
 use native.Mathlib.Omega.{arith}
@@ -17,16 +17,17 @@ use Rattle.image.specs.declared.Outcome.{Outcome}
 use Rattle.image.specs.declared.Outcome.TheVariants as outcome
 use Rattle.image.specs.Check.{stage_number, check, outcome_numbers}
 use Rattle.edit.specs.declared.Policy.TheVariants.{OnTheSpot}
+use Rattle.std.specs.Prelude.{Some, None, Result, Ok, Err}
+use Rattle.image.specs.declared.Stage.{Stage}
 use Rattle.chronicle_map.specs.declared.Located.{Located}
 use Rattle.chronicle_map.specs.declared.Located.TheVariants as looked
-use Rattle.chronicle_map.specs.Calls.{number_of, lookup, lookup_numbers, record_bytes}
+use Rattle.chronicle_map.specs.Calls.{number_of, lookup, lookup_numbers, record_bytes, store}
 use Rattle.chronicle_map.proofs.Refusing.{demand1, lookup-not-8, store-not-8}
-use Rattle.pairs.specs.declared.Asked.{Asked}
-use Rattle.pairs.specs.declared.Asked.TheVariants as asked
 use Rattle.pairs.specs.Pairs.{ChannelsFit, channels_fit?, pair_key, delay_record, most_negative, RecordFits, record_fits?, in_order}
-use Rattle.pairs.specs.Delays.{from_record, from_located, ask_pair, ask_checked, delay, asked_reply, set_record, set_pair, set_checked, set_delay, set_number}
+use Rattle.pairs.specs.Delays.{Asked, from_record, from_located, ask_pair, ask_checked, delay, asked_reply, set_record, set_pair, set_checked, set_delay, set_number}
 use Rattle.pairs.specs.History.{Refusals}
 use Rattle.pairs.proofs.Orders.{key_fits}
+use Rattle.pairs.proofs.Mapped.{stored-number}
 
 -- ---- which numbers are answered
 
@@ -77,12 +78,12 @@ module _ (block img : List ℕ) where
     record_asked r (no _) = ask-pair 12 (Memᴰ.tail (Memᴰ.head refl)) (omega arith)
     record_asked r (yes _) = ask-store 0 (omega arith) (omega arith)
 
-    looked-asked : (l : Located) → number_of (lookup_numbers l) < 9 → number_of (lookup_numbers l) ≢ 8
+    looked-asked : (l : Result Located Stage) → number_of (lookup_numbers l) < 9 → number_of (lookup_numbers l) ≢ 8
         → IsAskNumber (asked_reply (from_located img a b l)).number
     unfolding from_located
-    looked-asked (looked.Refused s) h ne = ask-store (stage_number s) h ne
-    looked-asked (looked.Absent e) h ne = ask-store 1 h ne
-    looked-asked (looked.Found p) h ne = record_asked (record_bytes img (looked.Found p)) (record_fits? (record_bytes img (looked.Found p)))
+    looked-asked (Err s) h ne = ask-store (stage_number s) h ne
+    looked-asked (Ok (looked.Absent e)) h ne = ask-store 1 h ne
+    looked-asked (Ok (looked.Found p)) h ne = record_asked (record_bytes img (Ok (looked.Found p))) (record_fits? (record_bytes img (Ok (looked.Found p))))
 
     pair-asked : (f : Dec (ChannelsFit a b)) → IsAskNumber (asked_reply (ask_pair block img a b f)).number
     unfolding choose ask_pair span
@@ -102,8 +103,9 @@ module _ (block img : List ℕ) where
       unfolding choose set_record span
       record_set (yes _) = set_pair_lem 12 (Memᴰ.tail (Memᴰ.head refl)) (omega arith)
       record_set (no _) =
-          set-store _ ((demand1 block img).store_answers OnTheSpot (pair_key a b) (delay_record (in_order a b d))).allowed
-          (store-not-8 block img (pair_key a b) (key_fits a b) OnTheSpot (delay_record (in_order a b d)))
+          rw (stored-number (store OnTheSpot block img (pair_key a b) (delay_record (in_order a b d))).answer)
+          (set-store _ ((demand1 block img).store_answers OnTheSpot (pair_key a b) (delay_record (in_order a b d))).allowed
+          (store-not-8 block img (pair_key a b) (key_fits a b) OnTheSpot (delay_record (in_order a b d))))
 
       pair_set : (f : Dec (ChannelsFit a b)) → IsSetNumber (set_number (set_pair block img a b d f).answer)
       unfolding choose set_pair
@@ -121,17 +123,16 @@ module _ (block img : List ℕ) where
 -- ---- what a refusal leaves
 
 pub ask-refused : (x : Asked) → (asked_reply x).number ≢ 0 → (asked_reply x).delay ≡ pos 0
-ask-refused (asked.Found d) ne = absurd (ne refl)
-ask-refused asked.Absent ne = refl
-ask-refused asked.BadPair ne = refl
-ask-refused asked.BadDelay ne = refl
-ask-refused (asked.Refused s) ne = refl
+ask-refused (Ok (Some d)) ne = absurd (ne refl)
+ask-refused (Ok None) ne = refl
+ask-refused (Err e) ne = refl
 
 module _ (block img : List ℕ) (a b : ℕ) (d : ℤ) where
   record_refused : (m : Dec (d ≡ most_negative)) → set_number (set_record block img a b d m).answer ≢ 0 → (set_record block img a b d m).image ≡ img
   unfolding choose set_record
   record_refused (yes _) ne = refl
-  record_refused (no _) ne = (demand1 block img).store_refused OnTheSpot (pair_key a b) (delay_record (in_order a b d)) ne
+  record_refused (no _) ne = (demand1 block img).store_refused OnTheSpot (pair_key a b) (delay_record (in_order a b d))
+      (λ z. ne (stored-number (store OnTheSpot block img (pair_key a b) (delay_record (in_order a b d))).answer ∙ z))
 
   pair-refused : (f : Dec (ChannelsFit a b)) → set_number (set_pair block img a b d f).answer ≢ 0 → (set_pair block img a b d f).image ≡ img
   unfolding choose set_pair

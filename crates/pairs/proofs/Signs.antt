@@ -18,9 +18,8 @@ use Rattle.chronicle_map.specs.Calls.{grow}
 use Rattle.chronicle_map.specs.History.{Map, map_of, map_get}
 use Rattle.chronicle_map.specs.Demands.{Accepted}
 use Rattle.chronicle_map.proofs.Growing.{KeepsMap, grow-keeps}
-use Rattle.pairs.specs.declared.Asked.{Asked}
 use Rattle.pairs.specs.Pairs.{ChannelsFit, channels_fit?, pair_key, delay_record, record_delay, most_negative, RecordFits, record_fits?, in_order}
-use Rattle.pairs.specs.Delays.{from_record, delay, Reply, asked_reply, set_delay, set_number}
+use Rattle.pairs.specs.Delays.{Asked, from_record, delay, Reply, asked_reply, set_delay, set_number}
 use Rattle.pairs.specs.History.{PairCall, asks, sets, grows, numbered, replies, pair_leaves, pair_run, reply, NoSet, SignsKept}
 use Rattle.pairs.proofs.Orders.{key-either, sign-either, sign-twice}
 use Rattle.pairs.proofs.Answering.{record_yes}

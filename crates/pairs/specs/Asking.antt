@@ -8,4 +8,3 @@ use Rattle.chronicle_map.specs.declared.Located.TheVariants as looked
 abbrev pub Within : List ℕ → Located → Type 0
 Within img (looked.Found p) = (p.offset + p.length ≤ length img) × (length img ≤ largest)
 Within img (looked.Absent e) = Unit {0}
-Within img (looked.Refused s) = Unit {0}

@@ -1,25 +1,22 @@
 -- The quick ask for a pair: 2, 3 and 4, then 11, then the walk's 18 and 1, then 12; and what is claimed of it.
-use Rattle.std.specs.Prelude.{ℕ, ◌≡◌, ◌≢◌, pos}
+use Rattle.pairs.specs.declared.AskError.TheVariants as ask
+use Rattle.std.specs.Prelude.{ℕ, ◌≡◌, ◌≢◌, pos, Err, Ok}
 use mathlib.Core.List.{List, [], ◌∷◌, Memᴰ}
 use Rattle.lists.specs.Decide.{choose}
 use Rattle.chronicle_map.specs.Demands.{Accepted}
-use Rattle.quick.specs.declared.Opened.{Opened}
-use Rattle.quick.specs.declared.Opened.TheVariants.{Ready, Refused}
-use Rattle.quick.specs.Quick.{opened, quick_lookup}
-use Rattle.pairs.specs.declared.Asked.{Asked}
-use Rattle.pairs.specs.declared.Asked.TheVariants as asked
+use Rattle.quick.specs.Quick.{opened, quick_lookup, Opened}
 use Rattle.pairs.specs.Pairs.{ChannelsFit, channels_fit?, pair_key}
-use Rattle.pairs.specs.Delays.{from_located, delay, asked_reply}
+use Rattle.pairs.specs.Delays.{Asked, from_located, delay, asked_reply}
 
 module _ (block img : List ℕ) (a b : ℕ) where
   -- 11
   unfoldable pub quick_pair : Dec (ChannelsFit a b) → Asked
-  quick_pair f = choose f (λ _. asked.BadPair) (λ _. from_located img a b (quick_lookup block img (pair_key a b)))
+  quick_pair f = choose f (λ _. Err ask.BadPair) (λ _. from_located img a b (quick_lookup block img (pair_key a b)))
 
   -- 2, 3 and 4
   unfoldable pub quick_opened : Opened → Asked
-  quick_opened (Refused s) = asked.Refused s
-  quick_opened (Ready z) = quick_pair (channels_fit? a b)
+  quick_opened (Err s) = Err (ask.Refused s)
+  quick_opened (Ok z) = quick_pair (channels_fit? a b)
 
   unfoldable pub quick_delay : Asked
   quick_delay = quick_opened (opened block img)

@@ -1,36 +1,75 @@
 // Signed delays by pair of channels: asked and set in either order, kept once.
 #![tactic(auto)]
 
-ghost use Rattle.std.specs.Prelude.{◌≡◌, ◌≢◌, ◌^◌, ◌<◌};
-ghost use Rattle.std.specs.Int.{w32};
-ghost use Rattle.std.proofs.Common.{to_z, of_z};
+ghost use Rattle.std.specs.Prelude.{◌≡◌, ◌≢◌, Ok};
 ghost use Rattle.lists.specs.Decide.{Decides};
 ghost use Rattle.image.specs.Check.{check};
+ghost use Rattle.pairs.specs.declared.AskError.TheVariants.{Refused};
+ghost use Rattle.pairs.specs.declared.SetError.TheVariants.{Edit};
 ghost use Rattle.pairs.specs.Pairs.{IsChannel, ChannelsFit, pair_key as pairs_pair_key, delay_record as pairs_delay_record, most_negative, record_fits?, in_order as pairs_in_order};
-ghost use Rattle.pairs.specs.Delays.{from_record as delays_from_record, from_located as delays_from_located, delay as delays_delay, unless_refused as delays_unless_refused, Setting, set_delay as delays_set_delay};
+ghost use Rattle.pairs.specs.Delays.{from_record as delays_from_record, from_located as delays_from_located, delay as delays_delay, ask_error_number, set_error_number, unless_refused as delays_unless_refused, Setting, set_delay as delays_set_delay};
 ghost use Rattle.pairs.specs.Quick.{quick_delay as quick_quick_delay};
 ghost use Rattle.pairs.specs.Asking.{Within};
 
-use chronicle_map::{Answer, Located};
+use chronicle_map::{EditError, Located};
 use image::{Outcome, Stage};
-use quick::Opened;
 
-// An ask's answer: the delay in microseconds; none; 11; 12; a refusal of the store.
-#[derive(Clone, Copy)]
-pub enum Asked {
-    Found(i32),
-    Absent,
+// Why an ask has no answer: 11, the channels are no pair; 12, the record is no delay; a refusal of the store.
+#[derive(Clone, Copy, Debug, PartialEq, Eq)]
+pub enum AskError {
     BadPair,
     BadDelay,
     Refused(Stage),
 }
 
-// A set's answer: the store's; 11; 12.
-#[derive(Clone, Copy)]
-pub enum SetAnswer {
-    Stored(Answer),
+impl From<Stage> for AskError {
+    ghost from_gives = { λ stage e. e ≡ Refused stage };
+
+    fn from(refusal: Stage) -> AskError {
+        AskError::Refused(refusal)
+    }
+}
+
+// The number of an ask that is refused.
+impl From<AskError> for u32 {
+    ghost from_gives = { λ e number. number ≡ ask_error_number e };
+
+    fn from(e: AskError) -> u32 {
+        match e {
+            AskError::BadPair => 11,
+            AskError::BadDelay => 12,
+            AskError::Refused(stage) => u32::from(stage),
+        }
+    }
+}
+
+// Why nothing is set: 11; 12; the store's error.
+#[derive(Clone, Copy, Debug, PartialEq, Eq)]
+pub enum SetError {
     BadPair,
     BadDelay,
+    Edit(EditError),
+}
+
+impl From<EditError> for SetError {
+    ghost from_gives = { λ edit e. e ≡ Edit edit };
+
+    fn from(error: EditError) -> SetError {
+        SetError::Edit(error)
+    }
+}
+
+// The number of a set that is not made.
+impl From<SetError> for u32 {
+    ghost from_gives = { λ e number. number ≡ set_error_number e };
+
+    fn from(e: SetError) -> u32 {
+        match e {
+            SetError::BadPair => 11,
+            SetError::BadDelay => 12,
+            SetError::Edit(edit) => u32::from(edit),
+        }
+    }
 }
 
 fn is_channel(c: u32) -> bool
@@ -60,15 +99,6 @@ fn channels_fit(a: u32, b: u32) -> bool
     true
 }
 
-fn has_opposite(d: i32) -> bool
-    ensures { Decides result (d ≢ most_negative) }
-{
-    if d == -2147483648 {
-        return false;
-    }
-    true
-}
-
 // The key of either order.
 fn pair_key(a: u32, b: u32) -> [u8; 2]
     requires { ChannelsFit a b }
@@ -86,67 +116,40 @@ fn in_order(a: u32, b: u32, d: i32) -> i32
     ensures value { result ≡ pairs_in_order a b d }
     ensures is_delay { result ≢ most_negative }
 {
-    let opposite = 0 - d;
     if a < b {
         return d;
     }
-    opposite
-}
-
-// 32 bits as a signed number.
-fn to_signed(v: u64) -> i32
-    requires { (v < 256 ^ 4) × (v ≢ 2147483648) }
-    ensures { result ≡ to_z w32 v }
-{
-    if v < 2147483648 {
-        return v as i32;
-    }
-    0 - (4294967296 - v) as i32
-}
-
-// The 32 bits of a signed number.
-fn from_signed(d: i32) -> u64
-    requires { d ≢ most_negative }
-    ensures { result ≡ of_z w32 d }
-{
-    if d < 0 {
-        return 4294967296 - (0 - d) as u64;
-    }
-    d as u64
+    -d
 }
 
 // The record of a delay.
 fn delay_record(d: i32) -> [u8; 4]
-    requires { d ≢ most_negative }
     ensures { result ≡ pairs_delay_record d }
 {
-    let mut bytes = [0u8; 4];
-    words::write_le(&mut bytes, 0, 4, from_signed(d));
-    bytes
+    d.to_le_bytes()
 }
 
 // The answer that a stored record gives: 12 where it is no delay.
-fn from_record(a: u32, b: u32, bytes: &[u8]) -> Asked
+fn from_record(a: u32, b: u32, bytes: &[u8]) -> Result<Option<i32>, AskError>
     ensures { result ≡ delays_from_record a b bytes.now (record_fits? bytes.now) }
 {
-    if bytes.len() != 4 {
-        return Asked::BadDelay;
+    let Ok(record) = <[u8; 4]>::try_from(bytes) else {
+        return Err(AskError::BadDelay);
+    };
+    let delay = i32::from_le_bytes(record);
+    if delay == i32::MIN {
+        return Err(AskError::BadDelay);
     }
-    let v = words::read_le4(bytes, 0);
-    if v == 2147483648 {
-        return Asked::BadDelay;
-    }
-    Asked::Found(in_order(a, b, to_signed(v)))
+    Ok(Some(in_order(a, b, delay)))
 }
 
 // The answer that the lookup of the pair's key gives.
-fn from_located(img: &[u8], a: u32, b: u32, located: Located) -> Asked
+fn from_located(img: &[u8], a: u32, b: u32, located: Located) -> Result<Option<i32>, AskError>
     requires { Within img.now located }
-    ensures { result ≡ delays_from_located img.now a b located }
+    ensures { result ≡ delays_from_located img.now a b (Ok located) }
 {
     match located {
-        Located::Refused(stage) => Asked::Refused(stage),
-        Located::Absent(_) => Asked::Absent,
+        Located::Absent(_) => Ok(None),
         Located::Found(p) => {
             let from = p.offset;
             let to = p.offset + p.length;
@@ -156,60 +159,58 @@ fn from_located(img: &[u8], a: u32, b: u32, located: Located) -> Asked
 }
 
 // The delay from the first channel to the second.
-pub fn delay(block: &[u8], img: &[u8], a: u32, b: u32) -> Asked
+pub fn delay(block: &[u8], img: &[u8], a: u32, b: u32) -> Result<Option<i32>, AskError>
     ensures { result ≡ delays_delay block.now img.now a b }
 {
     if !channels_fit(a, b) {
         let verdict = chronicle_map::check(block, img);
         let outcome = verdict.outcome;
         return match outcome {
-            Outcome::Refused(stage) => Asked::Refused(stage),
-            Outcome::Accepted(_) => Asked::BadPair,
+            Outcome::Refused(stage) => Err(AskError::Refused(stage)),
+            Outcome::Accepted(_) => Err(AskError::BadPair),
         };
     }
     let key = pair_key(a, b);
-    from_located(img, a, b, chronicle_map::lookup(block, img, &key))
+    from_located(img, a, b, chronicle_map::lookup(block, img, &key)?)
 }
 
 // The same without a check of the whole image: by the quick lookup.
-pub fn quick_delay(block: &[u8], img: &[u8], a: u32, b: u32) -> Asked
+pub fn quick_delay(block: &[u8], img: &[u8], a: u32, b: u32) -> Result<Option<i32>, AskError>
     ensures { result ≡ quick_quick_delay block.now img.now a b }
 {
     if !channels_fit(a, b) {
-        return match quick::open_image(block, img) {
-            Opened::Refused(stage) => Asked::Refused(stage),
-            Opened::Ready(_) => Asked::BadPair,
-        };
+        quick::open_image(block, img)?;
+        return Err(AskError::BadPair);
     }
     let key = pair_key(a, b);
-    from_located(img, a, b, quick::quick_lookup(block, img, &key))
+    from_located(img, a, b, quick::quick_lookup(block, img, &key)?)
 }
 
-// The check's refusal, or else the answer that is given.
-fn unless_refused(block: &[u8], img: &[u8], other: SetAnswer) -> SetAnswer
+// The check's refusal, or else the error that is given.
+fn unless_refused(block: &[u8], img: &[u8], other: SetError) -> SetError
     ensures { result ≡ delays_unless_refused other (check block.now img.now).outcome }
 {
     let verdict = chronicle_map::check(block, img);
     let outcome = verdict.outcome;
     match outcome {
-        Outcome::Refused(stage) => SetAnswer::Stored(Answer::Refused(stage)),
+        Outcome::Refused(stage) => SetError::Edit(EditError::Refused(stage)),
         Outcome::Accepted(_) => other,
     }
 }
 
 // Sets the delay from the first channel to the second, and with it the other order's.
-pub fn set_delay(block: &[u8], img: &mut [u8], a: u32, b: u32, d: i32) -> SetAnswer
+pub fn set_delay(block: &[u8], img: &mut [u8], a: u32, b: u32, d: i32) -> Result<(), SetError>
     ensures { record { answer = result; image = img.new } ≡ delays_set_delay block.now img.old a b d }
 {
     let pair = channels_fit(a, b);
-    let opposite = has_opposite(d);
     if !pair {
-        return unless_refused(block, img, SetAnswer::BadPair);
+        return Err(unless_refused(block, img, SetError::BadPair));
     }
-    if !opposite {
-        return unless_refused(block, img, SetAnswer::BadDelay);
+    if d == i32::MIN {
+        return Err(unless_refused(block, img, SetError::BadDelay));
     }
     let key = pair_key(a, b);
     let bytes = delay_record(in_order(a, b, d));
-    SetAnswer::Stored(chronicle_map::store(block, img, &key, &bytes))
+    chronicle_map::store(block, img, &key, &bytes)?;
+    Ok(())
 }

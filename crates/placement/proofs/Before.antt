@@ -3,6 +3,7 @@ use Prim.Native.Nat.{ℕ, ◌+◌, ◌^◌, ◌≤◌, ◌<◌}
 use mathlib.Core.List.{List, Memᴰ}
 use mathlib.Core.Path.{◌≡◌}
 use mathlib.Core.Logic.{◌≢◌}
+use Rattle.std.proofs.Common.{Option}
 use native.Mathlib.Omega.{arith}
 use lib.ListN.{length}
 use Rattle.words.specs.Bytes.{Bytes}
@@ -16,7 +17,6 @@ use Rattle.entries.specs.Stored.{chunks_for, ValueFits}
 use Rattle.entries.specs.Live.{full_slots}
 use Rattle.entries.proofs.Hashes.{lookup-lt, lookup-full}
 use Rattle.sound.specs.Sound.{SoundBut}
-use Rattle.placement.specs.declared.NewSlot.{NewSlot}
 use Rattle.placement.specs.Asking.{CanWrite, KnownFor, CanPlace}
 use Rattle.placement.proofs.Written.{chunk-lt}
 use Rattle.chains.proofs.Tiers.{chain-tiers}
@@ -64,7 +64,7 @@ module _ {z : Shape} {img but : List ℕ} {s t c : ℕ} {key value : List ℕ} (
         range_ends = p.range_ends;
       }
 
-  pub can-place : {slot : NewSlot} → KnownFor z img t key slot → CanPlace z img t c slot key value
+  pub can-place : {slot : Option ℕ} → KnownFor z img t key slot → CanPlace z img t c slot key value
   can-place e =
       record {
         write = can_write;

@@ -2,7 +2,7 @@
 use Prim.Native.Nat.{ℕ, ◌+◌, ◌-◌, ◌≤◌, ◌<◌}
 use mathlib.Core.List.{List}
 use mathlib.Core.Path.{◌≡◌, refl, ap, sym, ◌∙◌}
-use mathlib.Core.Logic.{◌≢◌}
+use Rattle.std.proofs.Common.{Option, Some, None}
 use mathlib.Core.Bool.{Bool, true, false, ◌&&◌}
 use native.Mathlib.Omega.{arith}
 use lib.Dec.{leb, eqb}
@@ -16,9 +16,9 @@ use Rattle.entries.specs.Live.{chunk_of, entry_at}
 use Rattle.entries.proofs.Whole.{entry-small}
 use Rattle.chunks.specs.Chunks.{clear, low_field, LowMarkFits}
 use Rattle.chunks.proofs.LowMark.{low-mark-few, low-mark-below}
-use Rattle.counters.proofs.CountRoom.{full-few}
+use Rattle.entries.proofs.FullSlots.{full-few}
 use Rattle.placement.specs.declared.Old.{Old}
-use Rattle.placement.specs.OldEntry.{old_at}
+use Rattle.placement.specs.OldEntry.{OtherTier, old_at}
 use Rattle.placement.specs.Runs.{full_in, full_but, clear_but}
 use Rattle.placement.specs.Asking.{NoneClearBelow}
 
@@ -41,52 +41,58 @@ and-false : (a : Bool) → (a && false) ≡ false
 and-false true = refl
 and-false false = refl
 
+-- ---- another tier than the old entry's
+
+module _ (z : Shape) (img : List ℕ) where
+  pub clear_else : (old : Option Old) (t i : ℕ) → OtherTier old t → clear z img t i ≡ clear_but z img old t i
+  unfolding clear_but
+  clear_else None t i e = refl
+  clear_else (Some o) t i e = rw (ne_eqb t o.tier e)
+
+  pub full_else : (old : Option Old) (t : ℕ) → OtherTier old t → full_in z img t ≡ full_but z img old t
+  unfolding full_but
+  full_else None t e = refl
+  full_else (Some o) t e = rw (full_but, ne_eqb t o.tier e)
+
 module _ (z : Shape) (img : List ℕ) (old : Old) (t : ℕ) where
   -- ---- a chunk
 
   module _ (i : ℕ) where
-    pub clear-old : t ≡ old.tier → old.chunk ≤ i → i < old.chunk + old.chunks → true ≡ clear_but z img old t i
+    pub clear-old : t ≡ old.tier → old.chunk ≤ i → i < old.chunk + old.chunks → true ≡ clear_but z img (Some old) t i
     unfolding clear_but
     clear-old e a b = rw (eq-eqb t old.tier e, le-leb old.chunk i a, lt-ltb i (old.chunk + old.chunks) b)
 
-    pub clear_else : t ≢ old.tier → clear z img t i ≡ clear_but z img old t i
-    unfolding clear_but
-    clear_else e = rw (ne_eqb t old.tier e)
-
-    pub clear-before : i < old.chunk → clear z img t i ≡ clear_but z img old t i
+    pub clear-before : i < old.chunk → clear z img t i ≡ clear_but z img (Some old) t i
     unfolding clear_but
     clear-before h = rw (lt-leb old.chunk i h, and-false (eqb t old.tier))
 
-    pub clear-after : old.chunk + old.chunks ≤ i → clear z img t i ≡ clear_but z img old t i
+    pub clear-after : old.chunk + old.chunks ≤ i → clear z img t i ≡ clear_but z img (Some old) t i
     unfolding clear_but
     clear-after h =
         rw (le-ltb i (old.chunk + old.chunks) h, and-false (leb old.chunk i), and-false (eqb t old.tier))
 
-  -- ---- the chunks below a place that the lowest free chunk field allows
-
-  module _ (low : LowMarkFits z img t) {c : ℕ} (h : c ≤ low_field z img t) where
-    within : c ≤ z.settings.chunks
-    within = omega (arith, h, low-mark-few low)
-
-    pub scan-old : c ≤ old.chunk → NoneClearBelow z img old t c
-    scan-old l = (within, λ i b. sym (clear-before i (omega arith)) ∙ low-mark-below low i (omega (arith, h)))
-
-    pub scan_else : t ≢ old.tier → NoneClearBelow z img old t c
-    scan_else ne = (within, λ i b. sym (clear_else i ne) ∙ low-mark-below low i (omega (arith, h)))
-
   -- ---- the slots
 
-  pub full-old : t ≡ old.tier → full_in z img t - 1 ≡ full_but z img old t
+  pub full-old : t ≡ old.tier → full_in z img t - 1 ≡ full_but z img (Some old) t
   unfolding full_but
   full-old e = rw (full_but, eq-eqb t old.tier e)
 
-  pub full_else : t ≢ old.tier → full_in z img t ≡ full_but z img old t
-  unfolding full_but
-  full_else e = rw (full_but, ne_eqb t old.tier e)
+-- ---- the chunks below a place that the lowest free chunk field allows
 
-pub full_but-le : (z : Shape) (img : List ℕ) (old : Old) (t : ℕ) → full_but z img old t ≤ z.settings.slots
-full_but-le z img old t =
+module _ (z : Shape) (img : List ℕ) (t : ℕ) (low : LowMarkFits z img t) {c : ℕ} (h : c ≤ low_field z img t) where
+  within : c ≤ z.settings.chunks
+  within = omega (arith, h, low-mark-few low)
+
+  pub scan-old : (o : Old) → c ≤ o.chunk → NoneClearBelow z img (Some o) t c
+  scan-old o l = (within, λ i b. sym (clear-before z img o t i (omega arith)) ∙ low-mark-below low i (omega (arith, h)))
+
+  pub scan_else : (old : Option Old) → OtherTier old t → NoneClearBelow z img old t c
+  scan_else old ne = (within, λ i b. sym (clear_else z img old t i ne) ∙ low-mark-below low i (omega (arith, h)))
+
+pub full_but-le : (z : Shape) (img : List ℕ) (old : Option Old) (t : ℕ) → full_but z img old t ≤ z.settings.slots
+full_but-le z img None t = omega (arith, full-few z img t, full_else z img None t tt)
+full_but-le z img (Some o) t =
     let h : full_in z img t ≤ z.settings.slots = full-few z img t in
-    by-test (eqb t old.tier)
-    (λ e. omega (arith, full-old z img old t (eqb-true t old.tier e)))
-    (λ e. omega (arith, full_else z img old t (eqb-false t old.tier e)))
+    by-test (eqb t o.tier)
+    (λ e. omega (arith, full-old z img o t (eqb-true t o.tier e)))
+    (λ e. omega (arith, full_else z img (Some o) t (eqb-false t o.tier e)))

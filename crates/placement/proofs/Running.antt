@@ -4,7 +4,8 @@ use mathlib.Core.List.{List, [], ◌∷◌, Memᴰ}
 use mathlib.Core.Path.{◌≡◌, refl, ap, sym, ◌∙◌}
 use mathlib.Core.Bool.{Bool, true, false}
 use mathlib.Core.Logic.{⊎_elim, ◌≢◌}
-use mathlib.Core.Option.{Option, none, some}
+use mathlib.Core.Option.{Option as Maybe, none, some}
+use Rattle.std.proofs.Common.{Option}
 use native.Mathlib.Omega.{arith}
 use lib.Dec.{leb}
 use borrow.Author.Tests.{leb-true}
@@ -19,6 +20,7 @@ use Rattle.chunks.specs.Chunks.{clear}
 use Rattle.placement.specs.declared.Old.{Old}
 use Rattle.placement.specs.declared.Run.{Run}
 use Rattle.placement.specs.declared.Run.TheVariants.{At, Nowhere}
+use Rattle.placement.specs.OldEntry.{OtherTier}
 use Rattle.placement.specs.Runs.{from_lowest, clear_from, lowest_run, run_in, first_run, run_for, full_in, full_but, clear_but}
 use Rattle.placement.proofs.OldEntry.{clear_else, full_else}
 
@@ -53,7 +55,7 @@ module _ (z : Shape) (full : ℕ → ℕ) (isClear : ℕ → ℕ → Bool) where
       (omega (arith, span_in 0 (suc chunks - n) c r.0), all-clear t c n r.1)
 
   -- by the answer of the lowest run
-  taken : (o : Option ℕ) (t n u c : ℕ) → lowest_run z full isClear t n ≡ o → full t + 2 ≤ slots
+  taken : (o : Maybe ℕ) (t n u c : ℕ) → lowest_run z full isClear t n ≡ o → full t + 2 ≤ slots
       → from_lowest t o ≡ At u c → (u ≡ t) × Takes t c n
   unfolding from_lowest
   taken none t n u c e r h = absurd (let y : ◌≡◌ {A = ℕ} 0 1 = cc in omega arith)
@@ -131,7 +133,7 @@ run-same z full full' isClear isClear' (t ∷ ts) n e f =
     λ i. elim (here i) [ At u c ↦ At u c | Nowhere ↦ there i ]
 
 -- in tiers that are not the old entry's it does not matter that this counts as removed
-pub run-others : (z : Shape) (img : List ℕ) (old : Old) (ts : List ℕ) (n : ℕ) → Every ts (λ t. t ≢ old.tier)
+pub run-others : (z : Shape) (img : List ℕ) (old : Option Old) (ts : List ℕ) (n : ℕ) → Every ts (OtherTier old)
     → first_run z (full_but z img old) (clear_but z img old) ts n ≡ run_for z img ts n
 unfolding run_for
 run-others z img old ts n ne =

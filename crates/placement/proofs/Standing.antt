@@ -3,12 +3,12 @@ use Prim.Native.Nat.{ℕ, ◌+◌, ◌≤◌}
 use mathlib.Core.List.{List}
 use mathlib.Core.Path.{◌≡◌, refl, ap, sym, ◌∙◌}
 use native.Mathlib.Omega.{arith}
+use Rattle.std.specs.Prelude.{Some}
 use lib.ListN.{length}
 use Rattle.words.specs.Bytes.{cut}
 use Rattle.layout.specs.declared.Shape.{Shape}
 use Rattle.layout.specs.Places.{chunk_at}
 use Rattle.entries.specs.declared.Entry.{Entry}
-use Rattle.entries.specs.declared.Stored.TheVariants.{Whole}
 use Rattle.entries.specs.Keys.{KeyFits, slot_chunk, slot_rest}
 use Rattle.entries.specs.Stored.{entry_bytes, chunks_for, ValueFits, stored, entry_of, key_of, value_of}
 use Rattle.entries.specs.Live.{slot_at, entry_at}
@@ -36,10 +36,10 @@ module _ {z : Shape} {img : List ℕ} {s t j v c : ℕ} {key value : List ℕ} (
   abbrev made : Entry
   made = entry_here z t c (length key) (length value)
 
-  whole : (stored z img t c ≡ Whole made) × (key_of img made ≡ key) × (value_of img made ≡ value)
+  whole : (stored z img t c ≡ Some made) × (key_of img made ≡ key) × (value_of img made ≡ value)
   whole = stored-whole z img t c key value (omega (arith, w.key_fits.not_longer)) w.value_fits.not_longer w.bytes w.in_chunks
 
-  stored_here : stored z img t (slot_chunk settings v) ≡ Whole made
+  stored_here : stored z img t (slot_chunk settings v) ≡ Some made
   stored_here = ap (stored z img t) w.first ∙ whole.0
 
   pub stands-entry : entry_for z img t v ≡ entry_here z t c (length key) (length value)

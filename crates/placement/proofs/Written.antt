@@ -2,6 +2,7 @@
 use Prim.Native.Nat.{ℕ, zero, suc, ◌+◌, ◌≤◌, ◌<◌, ◌-◌, ◌*◌}
 use mathlib.Core.List.{List, [], ◌∷◌, ◌++◌}
 use mathlib.Core.Path.{◌≡◌, ap, ap₂, ◌∙◌, sym}
+use Rattle.std.proofs.Common.{Option}
 use native.Mathlib.Omega.{arith}
 use native.Mathlib.Nat.{mul-le-mul_right}
 use lib.ListN.{length}
@@ -28,7 +29,6 @@ use Rattle.search.specs.declared.Sought.{Sought}
 use Rattle.search.specs.declared.Sought.TheVariants.{Holds, Empty}
 use Rattle.search.specs.Search.{slots_of, sought_in, first_empty}
 use Rattle.search.proofs.Finding.{sought-absent}
-use Rattle.placement.specs.declared.NewSlot.{NewSlot}
 use Rattle.placement.specs.Placement.{write_entry, written, slotted, place_at}
 use Rattle.placement.specs.Asking.{CanWrite, NewKey}
 
@@ -46,7 +46,7 @@ lookup-made st key eh el = el ∙ ap (lookup_of_hash st) eh
 pub first_empty-lt : {z : Shape} {len : ℕ} → Framed z len → (img : List ℕ) (t : ℕ) (key : List ℕ) → first_empty z img key t < z.settings.slots
 first_empty-lt {z} fr img t key = room-lt (slots_of z t) _ (start-lt fr.valid (lookup_key z.settings key)) img
 
-module _ (z : Shape) (img key : List ℕ) (lookup t : ℕ) {slot : NewSlot} (new : NewKey z img key lookup t slot) where
+module _ (z : Shape) (img key : List ℕ) (lookup t : ℕ) {slot : Option ℕ} (new : NewKey z img key lookup t slot) where
   sought-new : sought_in z img key t ≡ Empty (first_empty z img key t)
   sought-new = sought-absent z img new.seeks.tier.framed key t new.seeks.tier.tier_in new.takes.some_empty new.takes.lacks
 

@@ -1,7 +1,7 @@
 -- Which tier takes an entry of n chunks, and where: the first tier with at most C - 2 full slots and a run of n clear chunks, in its lowest
 -- such run.
-use Rattle.std.specs.Prelude.{ℕ, zero, suc, ◌+◌, ◌-◌, List, [], ◌∷◌, Bool, true, false, ◌&&◌, ◌||◌, leb, ltb, eqb, length}
-use Rattle.std.proofs.Math.Option.{Option, none, some}
+use Rattle.std.specs.Prelude.{ℕ, zero, suc, ◌+◌, ◌-◌, List, [], ◌∷◌, Bool, true, false, ◌&&◌, ◌||◌, leb, ltb, eqb, Option, Some, None, length}
+use Rattle.std.proofs.Math.Option.{Option as Maybe, none, some}
 use Rattle.lists.specs.Lists.{below, first}
 use Rattle.layout.specs.declared.Shape.{Shape}
 use Rattle.entries.specs.Live.{full_slots}
@@ -11,7 +11,7 @@ use Rattle.placement.specs.declared.Run.{Run}
 use Rattle.placement.specs.declared.Run.TheVariants.{At, Nowhere}
 
 -- the lowest run of tier t, if there is one
-unfoldable pub from_lowest : ℕ → Option ℕ → Run
+unfoldable pub from_lowest : ℕ → Maybe ℕ → Run
 from_lowest t none = Nowhere
 from_lowest t (some c) = At t c
 
@@ -26,7 +26,7 @@ module _ (z : Shape) (full : ℕ → ℕ) (isClear : ℕ → ℕ → Bool) where
   clear_from t c (suc n) = elim (isClear t c) [ true ↦ clear_from t (suc c) n | false ↦ false ]
 
   -- the lowest run of n clear chunks
-  unfoldable pub lowest_run : ℕ → ℕ → Option ℕ
+  unfoldable pub lowest_run : ℕ → ℕ → Maybe ℕ
   lowest_run t n = first (below (suc chunks - n)) (λ c. clear_from t c n)
 
   unfoldable pub run_in : ℕ → ℕ → Run
@@ -46,8 +46,10 @@ module _ (z : Shape) (img : List ℕ) where
   run_for ts n = first_run z full_in (clear z img) ts n
 
   -- as if the old entry were removed: its tier has one full slot less, and its chunks are clear
-  unfoldable pub full_but : Old → ℕ → ℕ
-  full_but old t = elim (eqb t old.tier) [ true ↦ full_in t - 1 | false ↦ full_in t ]
+  unfoldable pub full_but : Option Old → ℕ → ℕ
+  full_but None t = full_in t
+  full_but (Some o) t = elim (eqb t o.tier) [ true ↦ full_in t - 1 | false ↦ full_in t ]
 
-  unfoldable pub clear_but : Old → ℕ → ℕ → Bool
-  clear_but old t i = (eqb t old.tier && (leb old.chunk i && ltb i (old.chunk + old.chunks))) || clear z img t i
+  unfoldable pub clear_but : Option Old → ℕ → ℕ → Bool
+  clear_but None t i = clear z img t i
+  clear_but (Some o) t i = (eqb t o.tier && (leb o.chunk i && ltb i (o.chunk + o.chunks))) || clear z img t i

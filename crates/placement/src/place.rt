@@ -6,17 +6,16 @@ ghost use Rattle.search.specs.Search.{first_empty};
 ghost use Rattle.placement.specs.Placement.{write_entry as placement_write_entry, written, place_at as placement_place_at};
 ghost use Rattle.placement.specs.Asking.{CanWrite, NewKey, CanPlace};
 
-use super::NewSlot;
 use layout::Shape;
 use search::Sought;
 use settings::Settings;
 
-// The slot for a new key: the empty slot that ends the search for it. Where that is known the tier is not searched again.
-fn slot_for(z: Shape, img: &[u8], key: &[u8], lookup: u64, t: usize, slot: NewSlot) -> usize
+// The slot for a new key: the empty slot that ends the search for it. Where that is known, as `slot`, the tier is not searched again.
+fn slot_for(z: Shape, img: &[u8], key: &[u8], lookup: u64, t: usize, slot: Option<usize>) -> usize
     requires { NewKey z img.now key.now lookup t slot }
     ensures { result ≡ first_empty z img.now key.now t }
 {
-    if let NewSlot::Known(j) = slot {
+    if let Some(j) = slot {
         return j;
     }
     match search::seek(z, img, key, lookup, t) {
@@ -31,11 +30,7 @@ fn write_bytes(s: &mut [u8], at: usize, bytes: &[u8])
     requires { at + length bytes.now ≤ length s.old }
     ensures { s.new ≡ sets s.old at bytes.now }
 {
-    let mut i = 0;
-    while i < bytes.len() {
-        s[at + i] = bytes[i];
-        i += 1;
-    }
+    s[at..at + bytes.len()].copy_from_slice(bytes);
 }
 
 // Writes an entry's own bytes: key length, key, value length, value.
@@ -68,13 +63,13 @@ fn write_at(z: Shape, img: &mut [u8], t: usize, c: usize, key: &[u8], value: &[u
     write_from(z, img, t, c, key, value);
 }
 
-// Places an entry in tier t, in the chunks from c on.
+// Places an entry in tier t, in the chunks from c on, and in `slot` where the search for the key has ended there.
 pub fn place_at(
     z: Shape,
     img: &mut [u8],
     t: usize,
     c: usize,
-    slot: NewSlot,
+    slot: Option<usize>,
     key: &[u8],
     value: &[u8],
 )

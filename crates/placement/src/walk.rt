@@ -1,48 +1,59 @@
 // Where an entry goes, found in one walk along the chain of its key.
-ghost use Rattle.placement.specs.OldEntry.{no_old};
+ghost use Rattle.std.specs.Prelude.{None};
 ghost use Rattle.placement.specs.Asking.{CanScan, CanScanRest, CanWalk};
 ghost use Rattle.placement.specs.Walking.{CandidateAfter, Walked, PlaceAfter};
 
-use super::{NewSlot, Old, Run};
-use layout::Shape;
+use super::{Old, Run};
+use layout::{Header, Shape};
 use search::Sought;
 
-// Of the tiers that the search has passed, the first that takes the entry, and the empty slot that ended the search there.
+// Of the tiers that the search has passed, the first that takes the entry: its first chunk there, and the empty slot that ended the search.
 #[derive(Clone, Copy)]
 pub struct Candidate {
-    run: Run,
+    tier: usize,
+    chunk: usize,
     slot: usize,
 }
 
 // The walk up to the tier that holds the key: the entry there, how many tiers it has passed, and the candidate in those.
 #[derive(Clone, Copy)]
 pub struct Walk {
-    pub old: Old,
+    pub old: Option<Old>,
     pub passed: usize,
-    pub candidate: Candidate,
+    pub candidate: Option<Candidate>,
 }
 
 // Where the entry goes, and the entry that it replaces. The slot is known in a tier that the search has passed.
 #[derive(Clone, Copy)]
 pub struct EntryPlace {
-    pub old: Old,
+    pub old: Option<Old>,
     pub run: Run,
-    pub slot: NewSlot,
+    pub slot: Option<usize>,
 }
 
-// The candidate, or else tier t, where the search ended at slot j.
-fn or_tier(z: Shape, img: &[u8], candidate: Candidate, t: usize, j: usize, n: usize) -> Candidate
-    requires { CanScan z img.now no_old t n }
+// The candidate, or else tier t, where the search ended at slot j, if that takes the entry.
+fn or_tier(
+    z: Shape,
+    img: &[u8],
+    candidate: Option<Candidate>,
+    t: usize,
+    j: usize,
+    n: usize,
+) -> Option<Candidate>
+    requires { CanScan z img.now None t n }
     ensures { CandidateAfter z img.now n candidate t j result }
 {
-    let run = candidate.run;
-    let Run::Nowhere = run else {
-        return candidate;
-    };
-    Candidate {
-        run: super::runs::run_in(z, img, Old::none(), t, n),
-        slot: j,
+    if let Some(first) = candidate {
+        return Some(first);
     }
+    let Run::At(tier, chunk) = super::runs::run_in(z, img, None, t, n) else {
+        return None;
+    };
+    Some(Candidate {
+        tier,
+        chunk,
+        slot: j,
+    })
 }
 
 // The walk for an entry of n chunks.
@@ -54,39 +65,33 @@ pub fn walk_chain(z: Shape, img: &[u8], key: &[u8], n: usize) -> Walk
     let lookup = entries::keys::lookup_of_hash(z.settings, h);
     let most = layout::tier_count(z);
     let mut t = entries::keys::segment_of_hash(z.settings, h) + 1;
-    let mut candidate = Candidate {
-        run: Run::Nowhere,
-        slot: 0,
-    };
-    let mut k = 0;
-    while k < most {
+    let mut candidate = None;
+    for k in 0..most {
         if t == 0 {
             return Walk {
-                old: Old::none(),
+                old: None,
                 passed: k,
-                candidate: candidate,
+                candidate,
             };
         }
-        let sought = search::seek(z, img, key, lookup, t);
-        match sought {
+        match search::seek(z, img, key, lookup, t) {
             Sought::Holds(j) => {
                 return Walk {
-                    old: Old::at(z, img, t, j),
+                    old: Some(Old::at(z, img, t, j)),
                     passed: k,
-                    candidate: candidate,
+                    candidate,
                 };
             }
             Sought::Empty(j) => {
                 candidate = or_tier(z, img, candidate, t, j, n);
             }
         }
-        t = layout::read::next_of(z, img, t) as usize;
-        k += 1;
+        t = layout::read::shared(z, img, t, Header::NextTier) as usize;
     }
     Walk {
-        old: Old::none(),
-        passed: k,
-        candidate: candidate,
+        old: None,
+        passed: most,
+        candidate,
     }
 }
 
@@ -95,19 +100,16 @@ pub fn place_for(z: Shape, img: &[u8], w: Walk, n: usize) -> EntryPlace
     requires { CanScanRest z img.now w.old w.passed n }
     ensures { PlaceAfter z img.now n w result }
 {
-    let old = w.old;
-    let candidate = w.candidate;
-    let run = candidate.run;
-    let Run::Nowhere = run else {
+    if let Some(first) = w.candidate {
         return EntryPlace {
-            old: old,
-            run: run,
-            slot: NewSlot::Known(candidate.slot),
+            old: w.old,
+            run: Run::At(first.tier, first.chunk),
+            slot: Some(first.slot),
         };
-    };
+    }
     EntryPlace {
-        old: old,
-        run: super::runs::first_run(z, img, old, w.passed, n),
-        slot: NewSlot::Unknown,
+        old: w.old,
+        run: super::runs::first_run(z, img, w.old, w.passed, n),
+        slot: None,
     }
 }

@@ -1,10 +1,11 @@
 -- What is claimed of the quick lookup.
-use Rattle.std.specs.Prelude.{ℕ, ◌+◌, ◌≤◌, ◌≡◌, ◌≢◌, length, take, drop}
+use Rattle.std.specs.Prelude.{ℕ, ◌+◌, ◌≤◌, ◌≡◌, ◌≢◌, length, take, drop, Result, Ok}
 use mathlib.Core.List.{List, [], ◌∷◌, Memᴰ}
 use Rattle.layout.specs.declared.Shape.{Shape}
 use Rattle.layout.specs.Tiers.{IsTier}
 use Rattle.entries.specs.Live.{entry_at}
 use Rattle.search.specs.Rules.{keyAt}
+use Rattle.image.specs.declared.Stage.{Stage}
 use Rattle.chronicle_map.specs.declared.RecordPlace.{RecordPlace}
 use Rattle.chronicle_map.specs.declared.Located.{Located}
 use Rattle.chronicle_map.specs.declared.Located.TheVariants as looked
@@ -21,11 +22,11 @@ pub record StandsUnder (z : Shape) (img key : List ℕ) (p : RecordPlace) : Type
   pub within : p.offset + p.length ≤ length img
 
 -- whatever the image holds: the numbers, with zeros where the checked lookup has them, and what is found
-pub record QuickAnswers (block img key : List ℕ) (l : Located) : Type 0 where
+pub record QuickAnswers (block img key : List ℕ) (l : Result Located Stage) : Type 0 where
   pub allowed : Memᴰ (number_of (lookup_numbers l)) (0 ∷ 1 ∷ 2 ∷ 3 ∷ 4 ∷ 8 ∷ 18 ∷ [])
   pub no_record : number_of (lookup_numbers l) ≢ 0 → take 2 (drop 1 (lookup_numbers l)) ≡ 0 ∷ 0 ∷ []
   pub no_end : number_of (lookup_numbers l) ≢ 0 → number_of (lookup_numbers l) ≢ 1 → drop 3 (lookup_numbers l) ≡ 0 ∷ 0 ∷ []
-  pub found : (p : RecordPlace) → l ≡ looked.Found p → StandsUnder (shape block img) img key p
+  pub found : (p : RecordPlace) → l ≡ Ok (looked.Found p) → StandsUnder (shape block img) img key p
 
 pub record QuickLookups (block img : List ℕ) : Type 0 where
   pub answers : (key : List ℕ) → QuickAnswers block img key (quick_lookup block img key)

@@ -7,16 +7,8 @@ ghost use Rattle.quick.specs.Telling.{ParsesAlike, HashOf};
 
 use chronicle_map::{Located, RecordPlace, SearchEnd};
 use image::Stage;
-use layout::{Frame, Shape};
-use settings::Parsed;
-use walk::WalkEnd;
-
-// What settings and frame give: the shape of the image, or a refusal.
-#[derive(Clone, Copy)]
-pub enum Opened {
-    Ready(Shape),
-    Refused(Stage),
-}
+use layout::Shape;
+use walk::{Broken, WalkEnd};
 
 // How much of a block is looked at: one byte more than the longest has, which tells that it is too long.
 fn looked_at(block: &[u8]) -> usize
@@ -29,35 +21,29 @@ fn looked_at(block: &[u8]) -> usize
     most
 }
 
-// The settings and the frame. A part of the block is handed on and not the block: that would copy its address and length at once, and
-// such a copy waits until the two are stored, which made a quick lookup a third slower.
-pub fn open_image(block: &[u8], img: &[u8]) -> Opened
+// What settings and frame give: the shape of the image, or a refusal. A part of the block is handed on and not the block: that would copy
+// its address and length at once, and such a copy waits until the two are stored, which made a quick lookup a third slower.
+pub fn open_image(block: &[u8], img: &[u8]) -> Result<Shape, Stage>
     ensures { result ≡ opened block.now img.now }
 {
     let n = looked_at(block);
-    match settings::parse(&block[..n]) {
-        Parsed::BadBlock => Opened::Refused(Stage::Block),
-        Parsed::BadField => Opened::Refused(Stage::Field),
-        Parsed::Accepted(st) => match layout::frame_of(st, img) {
-            Frame::Fits(z) => Opened::Ready(z),
-            Frame::Broken => Opened::Refused(Stage::Frame),
-        },
-    }
+    let st = settings::parse(&block[..n])?;
+    layout::frame_of(st, img).ok_or(Stage::Frame)
 }
 
 // The walk's end as a lookup's answer.
-fn from_walk(end: WalkEnd) -> Located
+fn from_walk(end: Result<WalkEnd, Broken>) -> Result<Located, Stage>
     ensures { result ≡ quick_from_walk end }
 {
     match end {
-        WalkEnd::Found(t, j, e) => Located::Found(RecordPlace {
+        Ok(WalkEnd::Found(t, j, e)) => Ok(Located::Found(RecordPlace {
             offset: e.valueAt,
             length: e.valueLength,
             tier: t,
             slot: j,
-        }),
-        WalkEnd::Absent(t, j) => Located::Absent(SearchEnd { tier: t, slot: j }),
-        WalkEnd::Broken => Located::Refused(Stage::Walk),
+        })),
+        Ok(WalkEnd::Absent(t, j)) => Ok(Located::Absent(SearchEnd { tier: t, slot: j })),
+        Err(Broken) => Err(Stage::Walk),
     }
 }
 
@@ -73,17 +59,13 @@ fn hash(key: &[u8]) -> u64
 }
 
 // Where the record under a key stands, or where the walk for the key ended, without a check of the whole image.
-pub fn quick_lookup(block: &[u8], img: &[u8], key: &[u8]) -> Located
+pub fn quick_lookup(block: &[u8], img: &[u8], key: &[u8]) -> Result<Located, Stage>
     ensures { result ≡ quick_quick_lookup block.now img.now key.now }
 {
     let h = hash(key);
-    match open_image(block, img) {
-        Opened::Refused(stage) => Located::Refused(stage),
-        Opened::Ready(z) => {
-            if !entries::key_fits(z.settings, key) {
-                return Located::Refused(Stage::Key);
-            }
-            from_walk(walk::walk(z, img, key, h))
-        }
+    let z = open_image(block, img)?;
+    if !entries::key_fits(z.settings, key) {
+        return Err(Stage::Key);
     }
+    from_walk(walk::walk(z, img, key, h))
 }

@@ -5,6 +5,7 @@ use mathlib.Core.Path.{◌≡◌, refl, ap, ap₂, sym, ◌∙◌}
 use mathlib.Core.Logic.{⊎_elim, ◌⊎◌, inl, inr, ◌≢◌}
 use mathlib.Core.Bool.{Bool, true, false, ◌&&◌}
 use native.Mathlib.Omega.{arith}
+use Rattle.std.specs.Prelude.{Option}
 use lib.Dec.{leb, ltb}
 use borrow.Author.Tests.{lt-ltb, le-ltb, le-leb, lt-leb}
 use Rattle.lists.specs.Cases.{lt-or}
@@ -14,7 +15,7 @@ use Rattle.layout.specs.Places.{mark}
 use Rattle.layout.proofs.Marks.{mark-lt, mark-put_marks_in, mark-put_marks-out}
 use Rattle.chains.specs.Chains.{chain}
 use Rattle.probe.specs.Table.{slot_total}
-use Rattle.entries.specs.declared.Stored.{Stored}
+use Rattle.entries.specs.declared.Entry.{Entry}
 use Rattle.entries.specs.Keys.{slot_chunk}
 use Rattle.entries.specs.Stored.{entry_of, key_of, chunks_for}
 use Rattle.entries.specs.Live.{slot_at, chunk_of, entry_at, live_at, live_in}
@@ -119,7 +120,7 @@ module _ {z : Shape} {img : List ℕ} {s t j c n : ℕ} (w : Removable z img s t
   by_number : (img' : List ℕ) → SameBytes z img img' t → (i k : ℕ) → one_if (covers i (live_at z img' s t k)) ≡ weight i (slot_at z img' t k)
   unfolding live_at entry_at
   by_number img' b i k =
-      ap (λ (x : Stored). in_range (chunk_of z img' t k) (chunks_for settings (entry_of x).keyLength (entry_of x).valueLength) i)
+      ap (λ (x : Option Entry). in_range (chunk_of z img' t k) (chunks_for settings (entry_of x).keyLength (entry_of x).valueLength) i)
       (same-stored z img img' t b (chunk_of z img' t k))
 
   covered : (img' : List ℕ) → SameBytes z img img' t → (i : ℕ)

@@ -45,8 +45,7 @@ fn empty_slot(z: Shape, img: &mut [u8], t: usize, j: usize)
     };
     let mut cursor = first.step();
     let mut hole = j;
-    let mut left = st.slots;
-    while 0 < left {
+    for _left in (0..st.slots).rev() {
         let i = cursor.slot;
         let v = layout::read::slot(z, img, t, i);
         if v == 0 {
@@ -58,7 +57,6 @@ fn empty_slot(z: Shape, img: &mut [u8], t: usize, j: usize)
             hole = i;
         }
         cursor = cursor.step();
-        left -= 1;
     }
     layout::write::put_slot(z, img, t, hole, 0);
 }

@@ -14,7 +14,7 @@ use Rattle.pairs.specs.History.{PairCall, asks, sets, grows, numbered, replies, 
 use Rattle.pairs.proofs.Orders.{key-bytes}
 use Rattle.pairs.proofs.Records.{record_bytes_lem}
 use Rattle.pairs.proofs.Answering.{set-fits}
-use Rattle.pairs.proofs.Mapped.{from_map, ask-unfit, ask-map, set-unfit, set-lowest}
+use Rattle.pairs.proofs.Mapped.{stored-number, from_map, ask-unfit, ask-map, set-unfit, set-lowest}
 use Rattle.same_map.specs.SameAnswers.{ReadAlike, store_calls, pair_calls, SameMapSameDelays}
 use Rattle.same_map.proofs.Runs.{OneCall, KeepsAlike, both}
 use Rattle.same_map.proofs.Answers.{one-call}
@@ -51,7 +51,10 @@ module _ (block : List ℕ) where
           let call : OneCall (store_calls block) block c one other =
           one-call block c (key-bytes a b f, record_bytes_lem (in_order a b d)) (λ (e : c ≡ call_grows). let n : ◌≡◌ {A = ℕ} 0 1 = cc in omega arith)
           one other alike no10 no10' in
-          record { numbers = ap (λ (s : Said). s.number) call.said; alike = call.alike }
+          let number : (img : List ℕ) → set_number (from_store block img (pair_key a b) record_of).answer
+          ≡ answer_number (store OnTheSpot block img (pair_key a b) record_of).answer =
+          λ img. stored-number (store OnTheSpot block img (pair_key a b) record_of).answer in
+          record { numbers = number one ∙ ap (λ (s : Said). s.number) call.said ∙ sym (number other); alike = call.alike }
 
       same_set : Dec (ChannelsFit a b) → Dec (d ≡ most_negative) → set_number (set_delay block one a b d).answer ≢ 10
           → set_number (set_delay block other a b d).answer ≢ 10 → BothSet (set_delay block one a b d) (set_delay block other a b d)
@@ -66,8 +69,9 @@ module _ (block : List ℕ) where
           let e' : from_store block other (pair_key a b) record_of ≡ set_delay block other a b d = set-fits block other a b d f n in
           both_by e e'
           (stored f
-          (subst (λ (x : Setting). set_number x.answer ≢ 10) (sym e) no10)
-          (subst (λ (x : Setting). set_number x.answer ≢ 10) (sym e') no10'))
+          (λ z. subst (λ (x : Setting). set_number x.answer ≢ 10) (sym e) no10 (stored-number (store OnTheSpot block one (pair_key a b) record_of).answer ∙ z))
+          (λ z. subst (λ (x : Setting). set_number x.answer ≢ 10) (sym e') no10'
+          (stored-number (store OnTheSpot block other (pair_key a b) record_of).answer ∙ z)))
 
   one-pair-call : (c : PairCall) → c ≢ grows → KeepsAlike (pair_calls block) block c
   unfolding replies pair_leaves

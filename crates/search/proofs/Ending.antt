@@ -44,9 +44,6 @@ module _ (z : Shape) (img : List ℕ) (t j : ℕ) where
     coming-starts i lookup e q h = record { left = slots; seeking = seek-starts z img key t i lookup e q h; enough = dist-lt slots h hj }
 
     module _ {i : ℕ} (w : Coming i) where
-      pub coming-lt : i < slots
-      coming-lt = w.seeking.lt
-
       module _ (ne : i ≢ j) (v : ℕ) (ev : v ≡ slot_at z img t i) where
         pub coming-empty : v ≡ 0 → seek_in z img key t ≡ j → ⊥
         coming-empty e q = ne (seek-empty z img key t w.seeking v ev e ∙ q)

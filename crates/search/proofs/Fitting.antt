@@ -3,24 +3,21 @@ use Prim.Native.Nat.{ℕ, ◌+◌, ◌-◌, ◌≤◌, ◌<◌}
 use mathlib.Core.List.{List}
 use mathlib.Core.Path.{◌≡◌, refl, ap, sym, ◌∙◌, subst}
 use native.Mathlib.Omega.{arith}
+use Rattle.std.specs.Prelude.{Option, Some, None}
 use lib.ListN.{length, take, drop}
 use Rattle.words.specs.Bytes.{cut}
 use Rattle.layout.specs.declared.Shape.{Shape}
 use Rattle.layout.specs.FramedTier.{FramedTier}
 use Rattle.entries.specs.declared.Entry.{Entry}
-use Rattle.entries.specs.declared.Stored.{Stored}
-use Rattle.entries.specs.declared.Stored.TheVariants.{Whole, Broken}
 use Rattle.entries.specs.Keys.{slot_chunk, slot_rest, KeyFits}
 use Rattle.entries.specs.Stored.{stored, entry_of, key_of, chunks_for, ValueFits}
 use Rattle.entries.specs.Live.{slot_at, chunk_of, entry_at}
 use Rattle.entries.proofs.Whole.{WholeAt, whole-sound, whole_chunk, key_in_image}
 use Rattle.search.specs.declared.Found.{Found}
 use Rattle.search.specs.declared.Found.TheVariants.{At, Absent}
-use Rattle.search.specs.declared.rules.Slot.{Slot}
-use Rattle.search.specs.declared.rules.Slot.TheVariants.{Fits}
-use Rattle.search.specs.declared.rules.Slot.TheVariants as slot
+use Rattle.std.specs.Prelude.{Some}
 use Rattle.search.specs.Rules.{IsWhole, Hashed, keyAt, EntryFits, chunks_at}
-use Rattle.search.specs.Landing.{SlotHolds, SlotSays}
+use Rattle.search.specs.Landing.{SlotSays}
 use Rattle.search.specs.Asking.{HasKey}
 
 -- ---- the cut of a key, as the code has it: from a place up to another
@@ -34,14 +31,14 @@ key-cut l at n = let e : at + n - at ≡ n = omega arith in ap (λ (k : ℕ). ta
 pub record Held (z : Shape) (img : List ℕ) (t j v c : ℕ) (e : Entry) : Type 0 where
   pub holds : v ≡ slot_at z img t j
   pub first : c ≡ slot_chunk z.settings v
-  pub whole : stored z img t c ≡ Whole e
+  pub whole : stored z img t c ≡ Some e
 
-pub held : {z : Shape} {img : List ℕ} {t j v c : ℕ} {e : Entry} {r : Stored} → v ≡ slot_at z img t j → c ≡ slot_chunk z.settings v
+pub held : {z : Shape} {img : List ℕ} {t j v c : ℕ} {e : Entry} {r : Option Entry} → v ≡ slot_at z img t j → c ≡ slot_chunk z.settings v
     → r ≡ stored z img t c
-    → r ≡ Whole e → Held z img t j v c e
+    → r ≡ Some e → Held z img t j v c e
 held ev ec er w = record { holds = ev; first = ec; whole = sym er ∙ w }
 
-pub fits-broken : {z : Shape} {img : List ℕ} {s t j v c : ℕ} → v ≡ slot_at z img t j → c ≡ slot_chunk z.settings v → stored z img t c ≡ Broken
+pub fits-broken : {z : Shape} {img : List ℕ} {s t j v c : ℕ} → v ≡ slot_at z img t j → c ≡ slot_chunk z.settings v → stored z img t c ≡ None
     → EntryFits z img s t j → ⊥
 fits-broken {z} {img} {s} {t} ev ec b f = subst IsWhole (ap (stored z img t) (sym (ec ∙ ap (slot_chunk z.settings) ev)) ∙ b) f.whole
 
@@ -104,7 +101,7 @@ module _ {z : Shape} {img : List ℕ} {t j v c : ℕ} {e : Entry} (h : Held z im
 
     -- with the chunks that it covers
     pub entry-says : {n : ℕ} → n ≡ chunks_for settings e.keyLength e.valueLength → EntryFits z img s t j
-        → SlotSays z img (EntryFits z img s t j) t j (Fits c n)
+        → SlotSays z img (EntryFits z img s t j) t j (Some (c, n))
     entry-says q f = (f, (chunk-is, chunks-is q))
 
 -- ---- where a search ended
@@ -116,13 +113,13 @@ pub same-tier : (r : Found) (t j u k : ℕ) → r ≡ At t j → r ≡ At u k �
 same-tier r t j u k p q = cc
 
 module _ (z : Shape) (img : List ℕ) (t j : ℕ) where
-  key-inside : FramedTier z img t → (r : Stored) → stored z img t (chunk_of z img t j) ≡ r → IsWhole r
+  key-inside : FramedTier z img t → (r : Option Entry) → stored z img t (chunk_of z img t j) ≡ r → IsWhole r
       → (entry_at z img t j).keyAt + (entry_at z img t j).keyLength ≤ length img
   unfolding entry_at
-  key-inside tier (Whole e) q w =
+  key-inside tier (Some e) q w =
       let same : entry_at z img t j ≡ e = ap entry_of q in
       rw same (key_in_image z img t (chunk_of z img t j) (whole-sound z img t (chunk_of z img t j) e q) tier.framed tier.tier_in)
-  key-inside tier Broken q w = absurd w
+  key-inside tier None q w = absurd w
 
   -- the key of a slot whose entry can be read stands within the image
   pub entry-has-key : FramedTier z img t → IsWhole (stored z img t (chunk_of z img t j)) → (e : Entry) → e ≡ entry_at z img t j → HasKey z img e
@@ -131,12 +128,3 @@ module _ (z : Shape) (img : List ℕ) (t j : ℕ) where
   pub key-part : (e : Entry) → e ≡ entry_at z img t j → take (e.keyAt + e.keyLength - e.keyAt) (drop e.keyAt img) ≡ keyAt z img t j
   unfolding keyAt
   key-part e q = key-cut img e.keyAt e.keyLength ∙ ap (key_of img) q
-
--- ---- a full slot: what its entry gave, with the equation that the answer is taken by
-
-module _ (z : Shape) (img : List ℕ) (s t j : ℕ) (r : Slot) (q : SlotSays z img (EntryFits z img s t j) t j r) where
-  pub entry-broken : r ≡ slot.Broken → SlotHolds z img s t j → ⊥
-  entry-broken e h = let n : SlotSays z img (EntryFits z img s t j) t j slot.Broken = subst (SlotSays z img (EntryFits z img s t j) t j) e q in n h.0
-
-  pub entry-told : (c n : ℕ) → r ≡ Fits c n → SlotSays z img (EntryFits z img s t j) t j (Fits c n)
-  entry-told c n e = subst (SlotSays z img (EntryFits z img s t j) t j) e q

@@ -15,7 +15,7 @@ use Rattle.entries.specs.Keys.{start, slot_key}
 use Rattle.entries.specs.Live.{slot_at}
 use Rattle.search.specs.Search.{hits}
 use Rattle.search.specs.Rules.{keyAt, start_at, Reached, SomeEmpty}
-use Rattle.search.specs.Reach.{EndsFull, RunAt, RunTo, Alone}
+use Rattle.search.specs.Reach.{EndsFull, RunAt, RunTo}
 
 module _ (z : Shape) (img : List ℕ) (t : ℕ) where
   open z use {settings}
@@ -101,26 +101,6 @@ module _ (z : Shape) (img : List ℕ) (t : ℕ) where
     pub few : n ≤ slots
     pub full : Below slots (λ k. slots ≤ k + n → slot_at z img t k ≢ 0)
 
-  pub ending-starts : Ending 0
-  ending-starts = record { few = omega arith; full = λ k hk l. absurd (omega arith) }
-
-  module _ {n : ℕ} (w : Ending n) where
-    pub ending-turns : n < slots → slot_at z img t (slots - 1 - n) ≢ 0 → Ending (n + 1)
-    ending-turns h f =
-        record {
-          few = omega arith;
-          full = λ k hk l. ⊎_elim
-              (λ (q : k ≡ slots - 1 - n). rw q f)
-              (λ (q : k ≢ slots - 1 - n). w.full k hk (omega arith))
-              (same_or k (slots - 1 - n));
-        }
-
-    pub ending-gap : slot_at z img t (slots - 1 - n) ≡ 0 → EndsFull z img t n
-    ending-gap e = record { few = w.few; full = w.full; gap = λ _. e }
-
-    pub ending-out : slots ≤ n → EndsFull z img t n
-    ending-out h = record { few = w.few; full = w.full; gap = λ l. absurd (omega arith) }
-
   -- ---- the loop of `steps_left`
 
   module _ (j lookup : ℕ) where
@@ -143,11 +123,6 @@ module _ (z : Shape) (img : List ℕ) (t : ℕ) where
         record { low = hj; start_in = hs; lt = rw q hs; on_the_way = omega arith; others = λ k hk l. absurd (omega arith) }
 
     module _ {i : ℕ} (w : Walking i) where
-      pub walking_ends : i ≡ j → Alone z img t j
-      walking_ends q k hk l =
-          let d : dist slots from i ≡ dist slots from j = ap (dist slots from) q in
-          w.others k hk (omega arith)
-
       module _ (ne : i ≢ j) (two : 1 < slots) (i' : ℕ) (ei : i' ≡ next slots i) where
         pub walking_nearer : dist slots i j ≡ suc (dist slots i' j)
         walking_nearer = rw ei (dist-nearer slots w.lt w.low two ne)

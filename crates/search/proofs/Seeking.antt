@@ -5,6 +5,7 @@ use mathlib.Core.Path.{◌≡◌, refl, ap, sym, ◌∙◌}
 use mathlib.Core.Logic.{◌≢◌}
 use mathlib.Core.Bool.{true, false}
 use native.Mathlib.Omega.{arith}
+use Rattle.std.specs.Prelude.{Some, None}
 use lib.ListN.{length}
 use lib.Seq.{append_snoc}
 use borrow.Author.Tests.{eq-eqb, ne_eqb}
@@ -18,7 +19,6 @@ use Rattle.chains.proofs.Along.{AlongChain, chain-starts, chain-ends, chain-out,
 use Rattle.probe.specs.Ring.{next}
 use Rattle.probe.proofs.Seeking as probe
 use Rattle.entries.specs.declared.Entry.{Entry}
-use Rattle.entries.specs.declared.Stored.TheVariants.{Whole, Broken}
 use Rattle.entries.specs.Keys.{segment_of, lookup_key, start, slot_key, slot_chunk}
 use Rattle.entries.specs.Stored.{stored}
 use Rattle.entries.specs.Live.{slot_at}
@@ -38,16 +38,16 @@ module _ (z : Shape) (img key : List ℕ) (t : ℕ) where
   hits-differs v lookup e n = rw (ne_eqb (slot_key settings v) (lookup_key settings key) (λ q. n (q ∙ sym e)), hits)
 
   module _ (v lookup c : ℕ) (e : lookup ≡ lookup_key settings key) (k : slot_key settings v ≡ lookup) (ec : c ≡ slot_chunk settings v) where
-    pub hits-broken : stored z img t c ≡ Broken → same (cut img 0 0) key ≡ hits z img key t v
+    pub hits-broken : stored z img t c ≡ None → same (cut img 0 0) key ≡ hits z img key t v
     unfolding hits
     hits-broken b =
-        let b' : stored z img t (slot_chunk settings v) ≡ Broken = ap (stored z img t) (sym ec) ∙ b in
+        let b' : stored z img t (slot_chunk settings v) ≡ None = ap (stored z img t) (sym ec) ∙ b in
         rw (eq-eqb (slot_key settings v) (lookup_key settings key) (k ∙ e), hits, b')
 
-    pub hits-whole : (x : Entry) → stored z img t c ≡ Whole x → same (cut img x.keyAt x.keyLength) key ≡ hits z img key t v
+    pub hits-whole : (x : Entry) → stored z img t c ≡ Some x → same (cut img x.keyAt x.keyLength) key ≡ hits z img key t v
     unfolding hits
     hits-whole x w =
-        let w' : stored z img t (slot_chunk settings v) ≡ Whole x = ap (stored z img t) (sym ec) ∙ w in
+        let w' : stored z img t (slot_chunk settings v) ≡ Some x = ap (stored z img t) (sym ec) ∙ w in
         rw (eq-eqb (slot_key settings v) (lookup_key settings key) (k ∙ e), hits, w')
 
   -- ---- the loop of `seek`, over the tier's slots as a table

@@ -1,13 +1,11 @@
 -- The search for a stored key, and what is asked of one full slot. Where the slots fit and are reached, the search for each stored key ends
 -- in its own slot exactly if no key has two. The definitions serve contracts alone.
-use Rattle.std.specs.Prelude.{ℕ, List, ◌≡◌, ◌≢◌}
+use Rattle.std.specs.Prelude.{ℕ, List, ◌≡◌, ◌≢◌, Option, Some, None}
 use Rattle.lists.specs.Quantify.{Below, Every}
 use Rattle.layout.specs.declared.Shape.{Shape}
 use Rattle.chains.specs.Chains.{chain}
 use Rattle.entries.specs.Live.{slot_at, chunk_of}
 use Rattle.search.specs.declared.Found.TheVariants.{At}
-use Rattle.search.specs.declared.rules.Slot.{Slot}
-use Rattle.search.specs.declared.rules.Slot.TheVariants.{Fits, Broken}
 use Rattle.search.specs.Search.{seek_in, search}
 use Rattle.search.specs.Rules.{keyAt, chunks_at, EntryFits, Reached}
 
@@ -35,6 +33,6 @@ module _ (z : Shape) (img : List ℕ) where
   SlotHolds s t j = EntryFits z img s t j × Reached z img t j
 
   -- a full slot of which P is asked: P holds, with the chunks of its entry, or does not
-  abbrev pub SlotSays : Type 0 → ℕ → ℕ → Slot → Type 0
-  SlotSays P t j (Fits c n) = P × ((c ≡ chunk_of z img t j) × (n ≡ chunks_at z img t j))
-  SlotSays P t j Broken = P → ⊥
+  abbrev pub SlotSays : Type 0 → ℕ → ℕ → Option (ℕ × ℕ) → Type 0
+  SlotSays P t j (Some (c, n)) = P × ((c ≡ chunk_of z img t j) × (n ≡ chunks_at z img t j))
+  SlotSays P t j None = P → ⊥

@@ -1,5 +1,5 @@
 -- The rules of slots and entries: refusal 6.
-use Rattle.std.specs.Prelude.{ℕ, ◌+◌, ◌≤◌, ◌<◌, List, ◌≡◌, ◌≢◌}
+use Rattle.std.specs.Prelude.{ℕ, ◌+◌, ◌≤◌, ◌<◌, List, ◌≡◌, ◌≢◌, Option, Some, None}
 use Rattle.std.proofs.Math.Decide.{dec_le, dec_lt, ℕ_discrete}
 use Rattle.lists.specs.Decide.{both, implied, refuted, rule, some_below}
 use Rattle.lists.specs.Quantify.{Below, Every, below?, every?}
@@ -8,20 +8,19 @@ use Rattle.settings.specs.declared.Settings.{Settings}
 use Rattle.layout.specs.declared.Shape.{Shape}
 use Rattle.chains.specs.Chains.{chain}
 use Rattle.probe.specs.Ring.{dist}
-use Rattle.entries.specs.declared.Stored.{Stored}
-use Rattle.entries.specs.declared.Stored.TheVariants.{Whole, Broken}
+use Rattle.entries.specs.declared.Entry.{Entry}
 use Rattle.entries.specs.Keys.{KeyFits, segment_of, lookup_key, start, slot_key, slot_rest, key_fits?}
 use Rattle.entries.specs.Stored.{stored, key_of, chunks_for, ValueFits, value_fits?}
 use Rattle.entries.specs.Live.{slot_at, chunk_of, entry_at}
 
 -- an entry could be read
-abbrev pub IsWhole : Stored → Type 0
-IsWhole (Whole e) = Unit {0}
-IsWhole Broken = ⊥
+abbrev pub IsWhole : Option Entry → Type 0
+IsWhole (Some e) = Unit {0}
+IsWhole None = ⊥
 
-unfoldable pub is_whole? : (r : Stored) → Dec (IsWhole r)
-is_whole? (Whole e) = yes tt
-is_whole? Broken = no (λ x. x)
+unfoldable pub is_whole? : (r : Option Entry) → Dec (IsWhole r)
+is_whole? (Some e) = yes tt
+is_whole? None = no (λ x. x)
 
 -- the key's hash agrees with the segment s and with the lookup key of a slot that holds v
 pub record Hashed (st : Settings) (s v : ℕ) (key : List ℕ) : Type 0 where

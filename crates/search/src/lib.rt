@@ -10,11 +10,11 @@ ghost use Rattle.search.specs.Search.{hits as search_hits, sought_in, search as 
 ghost use Rattle.search.specs.Landing.{FoundIn};
 ghost use Rattle.search.specs.Asking.{Seeks, FramedChains, SoughtAt};
 
-use entries::Stored;
-use layout::Shape;
+use layout::{Header, Shape};
 use probe::Cursor;
 
 // Where the search for a key ends in one tier: at the slot that holds it, or at an empty slot.
+// Both are ends of a search and neither is an error, so a Result would name one of them wrongly.
 #[derive(Clone, Copy)]
 pub enum Sought {
     Holds(usize),
@@ -22,6 +22,7 @@ pub enum Sought {
 }
 
 // Where the search for a key ended: at the tier and slot that hold it, or at the empty slot of the last tier.
+// Both are ends of a search and neither is an error, so a Result would name one of them wrongly.
 #[derive(Clone, Copy)]
 pub enum Found {
     At(usize, usize),
@@ -37,7 +38,7 @@ fn hits(z: Shape, img: &[u8], key: &[u8], lookup: u64, t: usize, v: u64) -> bool
     if entries::keys::slot_key(st, v) != lookup {
         return false;
     }
-    let Stored::Whole(e) = entries::read::stored(z, img, t, entries::keys::slot_chunk(st, v)) else {
+    let Some(e) = entries::read::stored(z, img, t, entries::keys::slot_chunk(st, v)) else {
         return entries::read::same_key(img, 0, 0, key);
     };
     entries::read::same_key(img, e.keyAt, e.keyLength, key)
@@ -54,8 +55,7 @@ pub fn seek(z: Shape, img: &[u8], key: &[u8], lookup: u64, t: usize) -> Sought
         slot: from,
         slots: st.slots,
     };
-    let mut left = st.slots;
-    while 0 < left {
+    for _ in 0..st.slots {
         let v = layout::read::slot(z, img, t, cursor.slot);
         if v == 0 {
             return Sought::Empty(cursor.slot);
@@ -64,7 +64,6 @@ pub fn seek(z: Shape, img: &[u8], key: &[u8], lookup: u64, t: usize) -> Sought
             return Sought::Holds(cursor.slot);
         }
         cursor = cursor.step();
-        left -= 1;
     }
     // no slot is empty, and none stands for the key
     Sought::Holds(cursor.slot)
@@ -82,8 +81,7 @@ pub fn search(z: Shape, img: &[u8], key: &[u8]) -> Found
     let mut t = main;
     let mut tier = 0;
     let mut slot = 0;
-    let mut k = 0;
-    while k < most {
+    for _ in 0..most {
         if t == 0 {
             return Found::Absent(tier, slot);
         }
@@ -97,8 +95,7 @@ pub fn search(z: Shape, img: &[u8], key: &[u8]) -> Found
                 slot = j;
             }
         }
-        t = layout::read::next_of(z, img, t) as usize;
-        k += 1;
+        t = layout::read::shared(z, img, t, Header::NextTier) as usize;
     }
     Found::Absent(tier, slot)
 }
@@ -110,8 +107,7 @@ fn comes_to(z: Shape, img: &[u8], key: &[u8], lookup: u64, s: usize, t: usize) -
 {
     let most = layout::tier_count(z);
     let mut u = s + 1;
-    let mut k = 0;
-    while k < most {
+    for _ in 0..most {
         if u == t {
             return true;
         }
@@ -121,8 +117,7 @@ fn comes_to(z: Shape, img: &[u8], key: &[u8], lookup: u64, s: usize, t: usize) -
         let Sought::Empty(_) = seek(z, img, key, lookup, u) else {
             return false;
         };
-        u = layout::read::next_of(z, img, u) as usize;
-        k += 1;
+        u = layout::read::shared(z, img, u, Header::NextTier) as usize;
     }
     false
 }

@@ -19,15 +19,12 @@ pub fn full_at_end(z: Shape, img: &[u8], t: usize) -> usize
     requires { FramedTier z img.now t }
     ensures { EndsFull z img.now t result }
 {
-    let last = z.settings.slots - 1;
-    let mut n = 0;
-    while n <= last {
-        if layout::read::slot(z, img, t, last - n) == 0 {
+    for n in 0..z.settings.slots {
+        if layout::read::slot(z, img, t, z.settings.slots - 1 - n) == 0 {
             return n;
         }
-        n += 1;
     }
-    n
+    z.settings.slots
 }
 
 // The run up to and including the full slot j, the first from `next` on.

@@ -9,16 +9,9 @@ ghost use Rattle.search.specs.Reach.{Alone};
 ghost use Rattle.search.specs.Landing.{LandsAt, SlotHolds, SlotSays};
 ghost use Rattle.search.specs.Asking.{HasKey, KeyOfSlot, ComparedIn, FittingSlot, RunSlot};
 
-use entries::{Entry, Stored, ValueSize};
+use entries::Entry;
 use layout::Shape;
 use probe::Cursor;
-
-// A full slot that meets what is asked of it, with the chunks that its entry covers, the first and how many; or one that does not.
-#[derive(Clone, Copy)]
-pub enum Slot {
-    Fits(usize, usize),
-    Broken,
-}
 
 const STEPS_OF_A_KEY: usize = 16;
 
@@ -40,35 +33,31 @@ fn hash_agrees(z: Shape, img: &[u8], s: usize, v: u64, e: Entry) -> bool
     true
 }
 
-// Whether the entry of the full slot j, of a tier in segment s's chain, fits.
-fn entry_fits(z: Shape, img: &[u8], s: usize, t: usize, j: usize) -> Slot
+// The chunks that the entry of the full slot j, of a tier in segment s's chain, covers, first and how many; nothing where it does not fit.
+fn entry_fits(z: Shape, img: &[u8], s: usize, t: usize, j: usize) -> Option<(usize, usize)>
     requires { FramedSlot z img.now t j }
     ensures { SlotSays z img.now (EntryFits z img.now s t j) t j result }
 {
     let st = z.settings;
     let v = layout::read::slot(z, img, t, j);
     if entries::keys::slot_rest(st, v) != 0 {
-        return Slot::Broken;
+        return None;
     }
     let c = entries::keys::slot_chunk(st, v);
-    let Stored::Whole(e) = entries::read::stored(z, img, t, c) else {
-        return Slot::Broken;
-    };
+    let e = entries::read::stored(z, img, t, c)?;
     let from = e.keyAt;
     let to = e.keyAt + e.keyLength;
     if !entries::key_fits(st, &img[from..to]) {
-        return Slot::Broken;
+        return None;
     }
-    let ValueSize::Fits(n) = entries::value_fits(st, e.keyLength, e.valueLength) else {
-        return Slot::Broken;
-    };
+    let n = entries::value_fits(st, e.keyLength, e.valueLength)?;
     if st.chunks < c + n {
-        return Slot::Broken;
+        return None;
     }
     if !hash_agrees(z, img, s, v, e) {
-        return Slot::Broken;
+        return None;
     }
-    Slot::Fits(c, n)
+    Some((c, n))
 }
 
 // Whether a full slot of tier u that holds v stands for the key of slot j of tier t.
@@ -167,18 +156,22 @@ pub fn lands(z: Shape, img: &[u8], s: usize, t: usize, j: usize) -> bool
     super::comes_to(z, img, &img[from..to], lookup, s, t)
 }
 
-// Whether the full slot j, of a tier in segment s's chain, meets the rules of slots and entries apart from the others' keys: its entry fits,
-// and it is reached, since it is the last of `run` full slots without a gap.
-pub fn slot_fits(z: Shape, img: &[u8], s: usize, t: usize, j: usize, run: usize) -> Slot
+// The same where the full slot j meets the rules of slots and entries apart from the others' keys: its entry fits, and it is reached, since
+// it is the last of `run` full slots without a gap.
+pub fn slot_fits(
+    z: Shape,
+    img: &[u8],
+    s: usize,
+    t: usize,
+    j: usize,
+    run: usize,
+) -> Option<(usize, usize)>
     requires { RunSlot z img.now s t j run }
     ensures { SlotSays z img.now (SlotHolds z img.now s t j) t j result }
 {
-    let found = entry_fits(z, img, s, t, j);
-    let Slot::Fits(c, n) = found else {
-        return Slot::Broken;
-    };
+    let range = entry_fits(z, img, s, t, j)?;
     if run <= super::reach::displaced(z, img, t, j) {
-        return Slot::Broken;
+        return None;
     }
-    Slot::Fits(c, n)
+    Some(range)
 }

@@ -5,10 +5,11 @@ use mathlib.Core.Path.{◌≡◌, sym, ◌∙◌}
 use mathlib.Core.Logic.{⊎_elim}
 use native.Mathlib.Omega.{arith}
 use native.Mathlib.Nat.{mul-le-mul}
+use Rattle.std.specs.Prelude.{Result, Ok, Err}
 use Rattle.lists.proofs.Decides.{choose-by, choose_no, choose_yes}
 use Rattle.settings.specs.declared.Settings.{Settings}
-use Rattle.settings.specs.declared.Parsed.{Parsed}
-use Rattle.settings.specs.declared.Parsed.TheVariants.{Accepted, BadBlock, BadField}
+use Rattle.settings.specs.declared.ParseError.{ParseError}
+use Rattle.settings.specs.declared.ParseError.TheVariants as fault
 use Rattle.settings.specs.Rules.{SlotSize, Valid, largest}
 use Rattle.settings.specs.Decide.{valid?}
 use Rattle.settings.specs.Block.{BlockFits, block_fits?, settings_of, parse}
@@ -16,15 +17,15 @@ use Rattle.settings.specs.Block.{BlockFits, block_fits?, settings_of, parse}
 -- ---- parsing accepts exactly the blocks that fit and whose numbers meet every rule
 
 module _ (block : List ℕ) where
-  pub parse-bad-block : (BlockFits block → ⊥) → parse block ≡ BadBlock
+  pub parse-bad-block : (BlockFits block → ⊥) → parse block ≡ Err fault.Block
   unfolding parse
   parse-bad-block h = choose_no (block_fits? block) _ _ h
 
-  pub parse-bad-field : BlockFits block → (Valid (settings_of block) → ⊥) → parse block ≡ BadField
+  pub parse-bad-field : BlockFits block → (Valid (settings_of block) → ⊥) → parse block ≡ Err fault.Field
   unfolding parse
   parse-bad-field f h = choose_yes (block_fits? block) _ _ f ∙ choose_no (valid? (settings_of block)) _ _ h
 
-  pub parse-accepts : BlockFits block → Valid (settings_of block) → parse block ≡ Accepted (settings_of block)
+  pub parse-accepts : BlockFits block → Valid (settings_of block) → parse block ≡ Ok (settings_of block)
   unfolding parse
   parse-accepts f v = choose_yes (block_fits? block) _ _ f ∙ choose_yes (valid? (settings_of block)) _ _ v
 
@@ -34,10 +35,10 @@ module _ (block : List ℕ) where
     pub is : st ≡ settings_of block
     pub valid : Valid st
 
-  abbrev Only : Settings → Parsed → Type 0
-  Only st x = x ≡ Accepted st → Accepts st
+  abbrev Only : Settings → Result Settings ParseError → Type 0
+  Only st x = x ≡ Ok st → Accepts st
 
-  pub parse-only : (st : Settings) → parse block ≡ Accepted st → Accepts st
+  pub parse-only : (st : Settings) → parse block ≡ Ok st → Accepts st
   unfolding parse
   parse-only st =
       choose-by (block_fits? block) _ _ (Only st) (λ _ e. absurd (let z : ◌≡◌ {A = ℕ} 0 1 = cc in omega arith)) λ f.

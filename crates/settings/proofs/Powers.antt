@@ -1,11 +1,13 @@
 -- Logarithms of powers of two, by leading zeros.
-use Prim.Native.Nat.{ℕ, suc, ◌+◌, ◌-◌, ◌^◌, ◌≤◌, ◌<◌}
+use Prim.Native.Nat.{ℕ, suc, ◌+◌, ◌-◌, ◌*◌, ◌^◌, ◌≤◌, ◌<◌}
 use mathlib.Core.Path.{◌≡◌, ap, sym, ◌∙◌, subst}
 use mathlib.Core.Logic.{⊎_elim}
 use native.Mathlib.Omega.{arith}
 use native.Mathlib.Nat.{pow-suc}
 use lib.Count.{count_leading_zeros, leading_top}
 use lib.Dec.{eqb}
+use Rattle.std.specs.Int.RustNames.{count_ones}
+use Rattle.std.proofs.lemmas.Nat.{ones_cat, zero_from_ones}
 use lib.Pow.{pow_pos, pow_mono}
 use Rattle.lists.specs.Cases.{lt-or}
 use Rattle.lists.specs.Decide.{Decides}
@@ -35,20 +37,20 @@ leading_zeros_power n p =
     let is : t.0 ≡ 63 - count_leading_zeros 64 n = omega (arith, t.1) in
     (omega (arith, t.1), p.1.1 ∙ ap (λ (k : ℕ). 2 ^ k) (sym same ∙ is))
 
--- the power of the highest bit tells
-module _ (n : ℕ) (range : Between 1 most_tier_slots n) where
-  pub highest-zeros : count_leading_zeros 64 n ≤ 63
-  highest-zeros = let t : _ = leading_top 64 n (omega arith) (omega arith) in omega (arith, t.1)
-
-  pub highest-power : Decides (eqb (2 ^ (63 - count_leading_zeros 64 n)) n) (PowerOfTwo n)
-  highest-power =
-      decides_eq (2 ^ (63 - count_leading_zeros 64 n)) n
-      (λ e. (
-        63 - count_leading_zeros 64 n,
-        (
-          ⊎_elim (λ h. h) (λ (h : 25 ≤ 63 - count_leading_zeros 64 n). absurd (omega (arith, e, pow_mono {i = 25} {j = 63 - count_leading_zeros 64 n} h)))
-              (lt-or (63 - count_leading_zeros 64 n) 25),
-          sym e,
-        ),
-      ))
-      (λ p. sym (leading_zeros_power n p).1)
+-- one bit is set in a power of two, and in no other number
+pub one_bit : (n : ℕ) → Between 1 most_tier_slots n → Decides (eqb (count_ones n) 1) (PowerOfTwo n)
+unfolding count_ones
+one_bit n range =
+    let t : (j : ℕ) × (count_leading_zeros 64 n + suc j ≡ 64) × (2 ^ j ≤ n) × (n < 2 ^ suc j) = leading_top 64 n (omega arith) (omega arith) in
+    let j : ℕ = t.0 in
+    let r : ℕ = n - 2 ^ j in
+    let low : r < 2 ^ j = omega (arith, t.2, t.3, pow-suc 2 j) in
+    let parts : 1 * 2 ^ j + r ≡ n = omega (arith, t.2) in
+    let bits : count_ones n ≡ 1 + count_ones r = ap count_ones (sym parts) ∙ ones_cat j 1 r low in
+    decides_eq (count_ones n) 1
+    (λ e.
+    let none : r ≡ 0 = zero_from_ones r (omega arith) in (
+      j,
+      (⊎_elim (λ h. h) (λ (h : 25 ≤ j). absurd (omega (arith, t.2, pow_mono {i = 25} {j = j} h))) (lt-or j 25), omega (arith, t.2)),
+    ))
+    (λ p. let is : n ≡ 1 * 2 ^ p.0 + 0 = omega (arith, p.1.1) in rw is (ones_cat p.0 1 0 (pow_pos p.0)))

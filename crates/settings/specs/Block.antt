@@ -1,10 +1,10 @@
 -- The settings block: its bytes to numbers, or a refusal.
-use Rattle.std.specs.Prelude.{ℕ, ◌+◌, ◌*◌, List, ◌≡◌, length, get_or}
+use Rattle.std.specs.Prelude.{ℕ, ◌+◌, ◌*◌, List, ◌≡◌, length, get_or, Result, Ok, Err}
 use Rattle.std.proofs.Math.Decide.{dec_lt, ℕ_discrete}
 use Rattle.words.specs.Numbers.{be}
 use Rattle.settings.specs.declared.Settings.{Settings}
-use Rattle.settings.specs.declared.Parsed.{Parsed}
-use Rattle.settings.specs.declared.Parsed.TheVariants.{Accepted, BadBlock, BadField}
+use Rattle.settings.specs.declared.ParseError.{ParseError}
+use Rattle.settings.specs.declared.ParseError.TheVariants as fault
 use Rattle.lists.specs.Decide.{choose, rule}
 use Rattle.settings.specs.Decide.{valid?}
 use Rattle.settings.specs.Versions.{fields_of, KnownVersion, head_size, block_size, length_field}
@@ -56,8 +56,8 @@ settings_of block =
 
 -- ---- the answer
 
-unfoldable pub parse : List ℕ → Parsed
+unfoldable pub parse : List ℕ → Result Settings ParseError
 parse block =
-    choose (block_fits? block) (λ _. BadBlock) λ _.
-    choose (valid? (settings_of block)) (λ _. BadField) λ _.
-    Accepted (settings_of block)
+    choose (block_fits? block) (λ _. Err fault.Block) λ _.
+    choose (valid? (settings_of block)) (λ _. Err fault.Field) λ _.
+    Ok (settings_of block)

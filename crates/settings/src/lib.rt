@@ -1,7 +1,7 @@
 // The settings block: bytes that say how an image is laid out.
 #![tactic(auto)]
 
-ghost use Rattle.std.specs.Prelude.{◌≡◌, ◌+◌, ◌*◌, ◌≤◌, length};
+ghost use Rattle.std.specs.Prelude.{◌≡◌, ◌+◌, ◌*◌, ◌≤◌, length, ◌<◌, MatchOption};
 ghost use Rattle.lists.specs.Decide.{Decides};
 ghost use Rattle.settings.specs.Versions.{head_size, least_fields, most_fields, block_size as versions_block_size, fields_of};
 ghost use Rattle.settings.specs.Rules.{most_tier_slots, Between, PowerOfTwo, PartsFit, Valid, GlobalAt, Segments, HeaderSize, SlotSize, Slots, KeyBits, ChunkBits};
@@ -30,12 +30,11 @@ pub struct Settings {
     pub mostChunks: usize,
 }
 
-// What a block gives: its settings, or whether the block itself or a field of it is refused.
+// What of a block is refused: the block itself, or a field of it.
 #[derive(Clone, Copy)]
-pub enum Parsed {
-    Accepted(Settings),
-    BadBlock,
-    BadField,
+pub enum ParseError {
+    Block,
+    Field,
 }
 
 // The bytes of a block before its fields: the length field and the version.
@@ -56,13 +55,13 @@ pub const LARGEST_CHUNK: usize = 4096;
 
 pub const LARGEST_INNER: usize = 4096;
 
-// The table of versions: the fields of each; 0 for a version that is not known.
-pub fn fields_of(version: u8) -> usize
-    ensures { (result ≡ fields_of version) × (result ≤ most_fields) }
+// The table of versions: the fields of each; nothing for a version that is not known.
+pub fn fields_of(version: u8) -> Option<usize>
+    ensures { MatchOption result (0 ≡ fields_of version) (λ n. (n ≡ fields_of version) × (0 < n) × (n ≤ most_fields)) }
 {
     match version {
-        1 => 17,
-        _ => 0,
+        1 => Some(17),
+        _ => None,
     }
 }
 
@@ -80,10 +79,9 @@ fn block_fits(block: &[u8]) -> bool
     if block.len() < HEAD_SIZE {
         return false;
     }
-    let fields = fields_of(block[2]);
-    if fields == 0 {
+    let Some(fields) = fields_of(block[2]) else {
         return false;
-    }
+    };
     if block.len() != block_size(fields) {
         return false;
     }
@@ -127,12 +125,11 @@ fn settings_of(block: &[u8]) -> Settings
     }
 }
 
-// Whether n is the power of two of its highest bit: every call tests settings, and a loop would take a step for each bit.
 fn power_of_two(n: usize) -> bool
     requires { Between 1 most_tier_slots n }
     ensures { Decides result (PowerOfTwo n) }
 {
-    1usize << (63 - u64::leading_zeros(n as u64) as usize) == n
+    n.is_power_of_two()
 }
 
 fn counts_fit(st: Settings) -> bool
@@ -301,17 +298,17 @@ fn valid(st: Settings) -> bool
     true
 }
 
-// The settings that a block gives, or which refusal.
-pub fn parse(block: &[u8]) -> Parsed
+// The settings that a block gives, or why it is refused.
+pub fn parse(block: &[u8]) -> Result<Settings, ParseError>
     ensures { result ≡ block_parse block.now }
 {
     if !block_fits(block) {
-        return Parsed::BadBlock;
+        return Err(ParseError::Block);
     }
     let st = settings_of(block);
     if valid(st) {
-        Parsed::Accepted(st)
+        Ok(st)
     } else {
-        Parsed::BadField
+        Err(ParseError::Field)
     }
 }

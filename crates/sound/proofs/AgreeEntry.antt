@@ -4,6 +4,7 @@ use mathlib.Core.List.{List}
 use mathlib.Core.Path.{◌≡◌, refl, ap, sym, ◌∙◌, subst}
 use mathlib.Core.Logic.{◌≢◌, ⊎_elim}
 use native.Mathlib.Omega.{arith}
+use Rattle.std.specs.Prelude.{Option, Some, None}
 use native.Mathlib.Nat.{mul-zero}
 use Rattle.lists.specs.Cases.{same_or}
 use Rattle.lists.proofs.Numbers.{ceil-enough}
@@ -13,8 +14,6 @@ use Rattle.layout.specs.declared.Shape.{Shape}
 use Rattle.layout.specs.Places.{chunk_at}
 use Rattle.layout.proofs.Chunks.{chunk-at, chunk-rest, chunk_inside, chunk-add}
 use Rattle.entries.specs.declared.Entry.{Entry}
-use Rattle.entries.specs.declared.Stored.{Stored}
-use Rattle.entries.specs.declared.Stored.TheVariants.{Whole, Broken}
 use Rattle.entries.specs.Keys.{KeyFits, segment_of, lookup_key, slot_chunk, slot_key, slot_rest}
 use Rattle.entries.specs.Stored.{stored, entry_of, key_of, value_of, entry_size, chunks_for, ValueFits}
 use Rattle.entries.specs.Live.{slot_at, chunk_of, entry_at}
@@ -74,10 +73,10 @@ module _ (z : Shape) (img img' : List ℕ) (u : ℕ) where
       (λ h. within b (chunk_at z u c) ((chunks - c) * chunkSize) (omega (arith, chunk-at z u c)) (omega (arith, chunk-rest z u c h)))
 
   -- an entry reads the same where the chunks that it covers do
-  own-stored : (c : ℕ) (r : Stored) → stored z img u c ≡ r → IsWhole r
+  own-stored : (c : ℕ) (r : Option Entry) → stored z img u c ≡ r → IsWhole r
       → SameChunks z img img' u c (chunks_for settings (entry_of r).keyLength (entry_of r).valueLength)
       → (stored z img' u c ≡ r) × (key_of img' (entry_of r) ≡ key_of img (entry_of r)) × (value_of img' (entry_of r) ≡ value_of img (entry_of r))
-  own-stored c (Whole e) q w same =
+  own-stored c (Some e) q w same =
       let a : WholeAt z img u c e = whole-sound z img u c e q in
       let n : ℕ = chunks_for settings e.keyLength e.valueLength * chunkSize in
       let room : entry_size settings e.keyLength e.valueLength ≤ n = chunks-hold z img u c e a in (
@@ -85,23 +84,23 @@ module _ (z : Shape) (img img' : List ℕ) (u : ℕ) where
         sym (key-ext z img img' u c n a (sym same) (omega (arith, room))),
         sym (value-ext z img img' u c n a (sym same) room),
       )
-  own-stored c Broken q w same = absurd w
+  own-stored c None q w same = absurd w
 
   pub entry-stays : (s j k : ℕ) → SameChunks z img img' u (chunk_of z img u j) (chunks_at z img u j) → slot_at z img' u k ≡ slot_at z img u j
       → EntryFits z img s u j → Moved z img img' s u j k
   unfolding keyAt entry_at
   entry-stays s j k b e f =
-      let r : Stored = stored z img u (chunk_of z img u j) in
+      let r : Option Entry = stored z img u (chunk_of z img u j) in
       let own : (stored z img' u (chunk_of z img u j) ≡ r) × (key_of img' (entry_of r) ≡ key_of img (entry_of r))
       × (value_of img' (entry_of r) ≡ value_of img (entry_of r)) = own-stored (chunk_of z img u j) r refl f.whole b in
       let st : stored z img' u (chunk_of z img' u k) ≡ r = ap (λ (x : ℕ). stored z img' u (slot_chunk settings x)) e ∙ own.0 in
       let key : key_of img' (entry_of (stored z img' u (chunk_of z img' u k))) ≡ key_of img (entry_of r) =
-      ap (λ (x : Stored). key_of img' (entry_of x)) st ∙ own.1 in
+      ap (λ (x : Option Entry). key_of img' (entry_of x)) st ∙ own.1 in
       let value : value_of img' (entry_of (stored z img' u (chunk_of z img' u k))) ≡ value_of img (entry_of r) =
-      ap (λ (x : Stored). value_of img' (entry_of x)) st ∙ own.2 in
+      ap (λ (x : Option Entry). value_of img' (entry_of x)) st ∙ own.2 in
       let chunk : chunk_of z img' u k ≡ chunk_of z img u j = ap (slot_chunk settings) e in
       let many : chunks_at z img' u k ≡ chunks_at z img u j =
-      ap (λ (x : Stored). chunks_for settings (entry_of x).keyLength (entry_of x).valueLength) st in
+      ap (λ (x : Option Entry). chunks_for settings (entry_of x).keyLength (entry_of x).valueLength) st in
       record {
         fits =
             record {
@@ -109,7 +108,7 @@ module _ (z : Shape) (img img' : List ℕ) (u : ℕ) where
               chunk_in = omega (arith, chunk, f.chunk_in);
               whole = subst IsWhole (sym st) f.whole;
               key_fits = subst (KeyFits settings) (sym key) f.key_fits;
-              value_fits = subst (λ (x : Stored). ValueFits settings (entry_of x).keyLength (entry_of x).valueLength) (sym st) f.value_fits;
+              value_fits = subst (λ (x : Option Entry). ValueFits settings (entry_of x).keyLength (entry_of x).valueLength) (sym st) f.value_fits;
               range_ends = omega (arith, chunk, many, f.range_ends);
               hashed =
                   record {

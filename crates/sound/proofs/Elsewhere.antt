@@ -8,7 +8,10 @@ use lib.ListN.{length}
 use Rattle.words.specs.Bits.{bit_of}
 use Rattle.layout.specs.declared.Shape.{Shape}
 use Rattle.layout.specs.Tiers.{IsTier}
-use Rattle.layout.specs.Places.{Global, Header, Counter, Part, slot, counter, free, byte, Place, global, tier, shared_place, In, get}
+use Rattle.layout.specs.declared.Global.{Global}
+use Rattle.layout.specs.declared.Header.{Header}
+use Rattle.layout.specs.declared.Counter.{Counter}
+use Rattle.layout.specs.Places.{Part, slot, counter, free, byte, Place, global, tier, shared_place, In, get}
 use Rattle.layout.specs.Frame.{Image}
 use Rattle.layout.proofs.Places.{shared_in, shared-slot, shared-free, shared-byte}
 use Rattle.layout.proofs.Marks.{NoFree, mark-get}

@@ -4,6 +4,7 @@ use mathlib.Core.List.{List, [], ◌∷◌, flat_map, Memᴰ}
 use mathlib.Core.Path.{◌≡◌, refl, sym, ◌∙◌}
 use mathlib.Core.Logic.{◌≢◌}
 use native.Mathlib.Omega.{arith}
+use Rattle.std.specs.Prelude.{Option, Some, None}
 use native.Mathlib.Numerals.{add-one}
 use lib.Dec.{ltb}
 use lib.ListN.{length, length-append}
@@ -19,8 +20,7 @@ use Rattle.layout.specs.Places.{mark}
 use Rattle.layout.specs.Frame.{Image}
 use Rattle.layout.proofs.Chunks.{chunk_inside, chunks-inside}
 use Rattle.chains.specs.Chains.{chain, chained}
-use Rattle.entries.specs.declared.Stored.{Stored}
-use Rattle.entries.specs.declared.Stored.TheVariants.{Whole, Broken}
+use Rattle.entries.specs.declared.Entry.{Entry}
 use Rattle.entries.specs.declared.Live.{Live}
 use Rattle.entries.specs.Stored.{stored, entry_of, key_of, value_of, chunks_for}
 use Rattle.entries.specs.Live.{slot_at, chunk_of, entry_at, live_at, live_in}
@@ -78,11 +78,11 @@ module _ (z : Shape) (img : List ℕ) where
   -- ---- what one entry needs
 
   -- key and value stand within the image
-  pub whole_in_image : (t c : ℕ) → Image z img → IsTier z t → (r : Stored) → stored z img t c ≡ r → IsWhole r
+  pub whole_in_image : (t c : ℕ) → Image z img → IsTier z t → (r : Option Entry) → stored z img t c ≡ r → IsWhole r
       → c + chunks_for settings (entry_of r).keyLength (entry_of r).valueLength ≤ chunks
       → ((entry_of r).keyAt + (entry_of r).keyLength ≤ length img) × ((entry_of r).valueAt + (entry_of r).valueLength ≤ length img)
-  whole_in_image t c im it Broken e w h = absurd w
-  whole_in_image t c im it (Whole x) e w h =
+  whole_in_image t c im it None e w h = absurd w
+  whole_in_image t c im it (Some x) e w h =
       let a : WholeAt z img t c x = whole-sound z img t c x e in
       let n : ℕ = c + chunks_for settings x.keyLength x.valueLength in (
         key_in_image z img t c a im.framed it,

@@ -10,7 +10,9 @@ use Rattle.lists.specs.Lists.{total}
 use Rattle.lists.specs.Quantify.{Below, Every}
 use Rattle.layout.specs.declared.Shape.{Shape}
 use Rattle.layout.specs.Tiers.{IsTier}
-use Rattle.layout.specs.Places.{Global, bulkCount, headersOffset, storeSize, get, global}
+use Rattle.layout.specs.declared.Global.{Global}
+use Rattle.layout.specs.declared.Global.TheVariants.{BulkCount as bulkCount, HeadersOffset as headersOffset, StoreSize as storeSize}
+use Rattle.layout.specs.Places.{get, global}
 use Rattle.layout.specs.Frame.{Image}
 use Rattle.layout.proofs.Frames.{shape_same, fits-same}
 use Rattle.chains.specs.Chains.{chain, free_chain, chained}

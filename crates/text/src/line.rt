@@ -1,21 +1,21 @@
 // A line that is being written, by value.
 ghost use Rattle.std.specs.Prelude.{[], ◌∷◌, ◌++◌, ◌≡◌, ◌+◌, ◌*◌, length};
 ghost use Rattle.text.specs.Text.{decimal, spaced};
-ghost use Rattle.text.specs.Line.{text_of, Room, Added, AddedWithin};
+ghost use Rattle.text.specs.Line.{text_of, length_of, Room, Added, AddedWithin};
 
-// The first len of its bytes are written. Seven numbers of 20 digits fit.
+use arrayvec::ArrayVec;
+
+// Seven numbers of 20 digits fit.
 #[derive(Drop)]
 pub struct Line {
-    pub bytes: [u8; 160],
-    pub len: usize,
+    pub text: ArrayVec<u8, 160>,
 }
 
 pub(crate) fn start() -> Line
-    ensures { (text_of result ≡ []) × (result.len ≡ 0) }
+    ensures { (text_of result ≡ []) × (length_of result ≡ 0) }
 {
     Line {
-        bytes: [0; 160],
-        len: 0,
+        text: ArrayVec::new(),
     }
 }
 
@@ -24,21 +24,16 @@ impl Line {
         requires { Room 1 self }
         ensures { Added self (b ∷ []) result }
     {
-        let at = self.len;
-        self.bytes[at] = b;
-        self.len = at + 1;
+        self.text.push(b);
         self
     }
 
-    pub(crate) fn put_word(self, w: &[u8]) -> Line
+    pub(crate) fn put_word(mut self, w: &[u8]) -> Line
         requires { Room (length w.now) self }
         ensures { Added self w.now result }
     {
-        let mut l = self;
-        for i in 0..w.len() {
-            l = l.put_byte(w[i]);
-        }
-        l
+        self.text.try_extend_from_slice(w).unwrap();
+        self
     }
 
     // A number has at most 20 digits.
@@ -63,8 +58,8 @@ impl Line {
         ensures { AddedWithin (21 * length ns.now) self (spaced ns.now) result }
     {
         let mut l = self;
-        for i in 0..ns.len() {
-            l = l.put_spaced(ns[i]);
+        for n in ns {
+            l = l.put_spaced(*n);
         }
         l
     }

@@ -20,7 +20,8 @@ use Rattle.links.proofs.Edits.{linked-front, linked-out}
 use Rattle.links.proofs.Standing.{Standing, Closes, standing-without}
 use Rattle.layout.specs.declared.Shape.{Shape}
 use Rattle.layout.specs.Tiers.{IsTier, IsExtra}
-use Rattle.layout.specs.Places.{get, tier, counter, previous, segment, order}
+use Rattle.layout.specs.declared.Counter.TheVariants.{Previous as previous, Segment as segment, Order as order}
+use Rattle.layout.specs.Places.{get, tier, counter}
 use Rattle.chains.specs.Chains.{next_of, chain, free_head, free_chain, chained, chained_extra, Once, ChainFits, ChainsFit}
 use Rattle.chains.specs.Walk.{extras_of}
 use Rattle.chains.proofs.Tiers.{chain-tiers, free-tiers}

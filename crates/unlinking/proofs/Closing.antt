@@ -9,7 +9,9 @@ use Rattle.links.proofs.Follow.{follow-none, follow-more}
 use Rattle.layout.specs.declared.Shape.{Shape}
 use Rattle.layout.specs.declared.Counters.{Counters}
 use Rattle.layout.specs.Tiers.{tiers, IsTier}
-use Rattle.layout.specs.Places.{get, put, puts, Write, global, firstFree, usedTiers, tier, counter, previous, next_place, counters_of}
+use Rattle.layout.specs.declared.Global.TheVariants.{FirstFree as firstFree, UsedTiers as usedTiers}
+use Rattle.layout.specs.declared.Counter.TheVariants.{Previous as previous}
+use Rattle.layout.specs.Places.{get, put, puts, Write, global, tier, counter, next_place, counters_of}
 use Rattle.layout.proofs.Places.{puts-append}
 use Rattle.chains.specs.Chains.{next_of, free_head, follow}
 use Rattle.chains.proofs.Segments.{segments-le}

@@ -8,7 +8,11 @@ use Rattle.lists.specs.Quantify.{Every}
 use Rattle.links.specs.Links.{Linked}
 use Rattle.layout.specs.declared.Shape.{Shape}
 use Rattle.layout.specs.Tiers.{tiers, IsTier}
-use Rattle.layout.specs.Places.{Counter, nextTier, next, previous, order, firstFree, usedTiers, counter_no, Place, global, tier, counter, In, get, next_place, puts}
+use Rattle.layout.specs.declared.Global.TheVariants.{FirstFree as firstFree, UsedTiers as usedTiers}
+use Rattle.layout.specs.declared.Header.TheVariants.{NextTier as nextTier}
+use Rattle.layout.specs.declared.Counter.{Counter}
+use Rattle.layout.specs.declared.Counter.TheVariants.{Next as next, Previous as previous, Order as order}
+use Rattle.layout.specs.Places.{counter_no, Place, global, tier, counter, In, get, next_place, puts}
 use Rattle.layout.specs.Frame.{Image}
 use Rattle.layout.proofs.Places.{Spares, spare, spare-none, spares_both, get-puts-other, image-puts, kind, by_kind, shared_in, shared-never, shared-tiers}
 use Rattle.chains.specs.Chains.{next_of, free_head}

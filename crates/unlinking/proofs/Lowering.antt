@@ -14,7 +14,9 @@ use Rattle.links.proofs.Along.{Along, along-starts, along-ends, along-splits, al
 use Rattle.layout.specs.declared.Shape.{Shape}
 use Rattle.layout.specs.declared.Counters.{Counters}
 use Rattle.layout.specs.Tiers.{tiers, IsTier}
-use Rattle.layout.specs.Places.{Place, get, put, puts, tier, counter, order, nextTier, next, next_place, counters_of, In}
+use Rattle.layout.specs.declared.Header.TheVariants.{NextTier as nextTier}
+use Rattle.layout.specs.declared.Counter.TheVariants.{Order as order, Next as next}
+use Rattle.layout.specs.Places.{Place, get, put, puts, tier, counter, next_place, counters_of, In}
 use Rattle.layout.proofs.Places.{puts-append, length-puts, shared_in, shared-never}
 use Rattle.chains.specs.Chains.{next_of, follow}
 use Rattle.unlinking.specs.Unlinking.{one_less, nearer}

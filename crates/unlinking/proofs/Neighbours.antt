@@ -18,7 +18,9 @@ use Rattle.links.proofs.Edits.{linked-rest}
 use Rattle.links.proofs.Follow.{follow-linked, end-linked}
 use Rattle.layout.specs.declared.Shape.{Shape}
 use Rattle.layout.specs.Tiers.{tiers, IsTier, IsExtra}
-use Rattle.layout.specs.Places.{get, global, usedTiers, tier, counter, order}
+use Rattle.layout.specs.declared.Global.TheVariants.{UsedTiers as usedTiers}
+use Rattle.layout.specs.declared.Counter.TheVariants.{Order as order}
+use Rattle.layout.specs.Places.{get, global, tier, counter}
 use Rattle.layout.specs.Frame.{Framed}
 use Rattle.chains.specs.Chains.{next_of, end_of, chain, chained_extra, StandsAt, ChainsFit}
 use Rattle.chains.specs.Walk.{extras_of}

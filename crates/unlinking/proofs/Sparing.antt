@@ -9,7 +9,8 @@ use lib.ListN.{length, get_or}
 use Rattle.lists.specs.Quantify.{Every}
 use Rattle.layout.specs.declared.Shape.{Shape}
 use Rattle.layout.specs.Tiers.{IsTier}
-use Rattle.layout.specs.Places.{get, puts, Place, tier, counter, previous, order, In}
+use Rattle.layout.specs.declared.Counter.TheVariants.{Previous as previous, Order as order}
+use Rattle.layout.specs.Places.{get, puts, Place, tier, counter, In}
 use Rattle.layout.specs.Frame.{Framed}
 use Rattle.layout.proofs.Places.{Spares, spare, spare-none, get-puts-other}
 use Rattle.unlinking.specs.Unlinking.{nearer, comes_after}

@@ -15,7 +15,7 @@ use Rattle.links.proofs.Once.{linked-apart}
 use Rattle.links.proofs.Runs.{linked-start}
 use Rattle.layout.specs.declared.Shape.{Shape}
 use Rattle.layout.specs.Tiers.{IsTier}
-use Rattle.layout.specs.Places.{bulkCount, headersOffset, storeSize}
+use Rattle.layout.specs.declared.Global.TheVariants.{BulkCount as bulkCount, HeadersOffset as headersOffset, StoreSize as storeSize}
 use Rattle.layout.proofs.Frames.{shape_same, fits-same}
 use Rattle.chains.specs.Chains.{chain, chained, free_chain, ChainsFit}
 use Rattle.chains.proofs.Tiers.{chain-tiers, free-tiers}

@@ -13,7 +13,13 @@ use Rattle.links.proofs.Runs.{run-after}
 use Rattle.links.proofs.Once.{first-apart}
 use Rattle.layout.specs.declared.Shape.{Shape}
 use Rattle.layout.specs.Tiers.{tiers, IsTier}
-use Rattle.layout.specs.Places.{Header, Counter, nextTier, next, previous, segment, order, Global, firstFree, usedTiers, global_no, header_no, counter_no, Place, global, tier, slot, counter, free, byte, wide, part_wide, In, get, shared_place, next_place, Write, ◌≔◌, puts, entry_count, lowestFree, low, count}
+use Rattle.layout.specs.declared.Global.{Global}
+use Rattle.layout.specs.declared.Global.TheVariants.{FirstFree as firstFree, UsedTiers as usedTiers}
+use Rattle.layout.specs.declared.Header.{Header}
+use Rattle.layout.specs.declared.Header.TheVariants.{NextTier as nextTier, EntryCount as entry_count, LowestFree as lowestFree}
+use Rattle.layout.specs.declared.Counter.{Counter}
+use Rattle.layout.specs.declared.Counter.TheVariants.{Next as next, Previous as previous, Segment as segment, Order as order, Low as low, Count as count}
+use Rattle.layout.specs.Places.{global_no, header_no, counter_no, Place, global, tier, slot, counter, free, byte, wide, part_wide, In, get, shared_place, next_place, Write, ◌≔◌, puts}
 use Rattle.layout.specs.Frame.{Image}
 use Rattle.layout.proofs.Places.{Spares, spare, spare-none, spares_both, get-lt, get-puts-other, get-puts-here, image-puts, length-puts, kind, by_kind, global-lt, shared_in, shared-kind, shared-never, shared-tiers, shared-wide}
 use Rattle.chains.specs.Chains.{next_of, free_head}

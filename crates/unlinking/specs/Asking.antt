@@ -4,7 +4,8 @@ use mathlib.Core.List.{List, Memᴰ}
 use Rattle.lists.specs.Quantify.{Every}
 use Rattle.layout.specs.declared.Shape.{Shape}
 use Rattle.layout.specs.Tiers.{tiers, IsTier}
-use Rattle.layout.specs.Places.{get, tier, counter, order}
+use Rattle.layout.specs.declared.Counter.TheVariants.{Order as order}
+use Rattle.layout.specs.Places.{get, tier, counter}
 use Rattle.layout.specs.Frame.{Framed}
 use Rattle.chains.specs.Chains.{follow, end_of, chain, ChainsFit}
 use Rattle.chains.specs.Walk.{extras_of}

@@ -3,7 +3,9 @@
 use Rattle.std.specs.Prelude.{ℕ, ◌-◌, List, [], ◌∷◌, ◌++◌, map, Bool, true, false, ◌&&◌, ltb, eqb, length}
 use Rattle.layout.specs.declared.Shape.{Shape}
 use Rattle.layout.specs.Tiers.{tiers}
-use Rattle.layout.specs.Places.{get, Write, ◌≔◌, puts, global, firstFree, usedTiers, tier, counter, previous, order, next_place}
+use Rattle.layout.specs.declared.Global.TheVariants.{FirstFree as firstFree, UsedTiers as usedTiers}
+use Rattle.layout.specs.declared.Counter.TheVariants.{Previous as previous, Order as order}
+use Rattle.layout.specs.Places.{get, Write, ◌≔◌, puts, global, tier, counter, next_place}
 use Rattle.chains.specs.Chains.{follow, next_of, free_head}
 use Rattle.entries.specs.Live.{full_slots}
 

@@ -8,7 +8,7 @@ ghost use Rattle.chains.specs.Chains.{follow};
 ghost use Rattle.unlinking.specs.Unlinking.{nearer, comes_after, unlink as unlinking_unlink, unlink_empty as unlinking_unlink_empty};
 ghost use Rattle.unlinking.specs.Asking.{CanLower, CanUnlink, CanUnlinkEmpty};
 
-use layout::{Counters, Shape};
+use layout::{Counter, Counters, Global, Header, Shape};
 
 // The tiers of a chain from the first of these on are one place nearer the main tier.
 fn lower_orders(z: Shape, img: &mut [u8], first: usize)
@@ -17,9 +17,9 @@ fn lower_orders(z: Shape, img: &mut [u8], first: usize)
 {
     let mut t = first;
     while t != 0 {
-        let next = layout::read::next_of(z, img, t) as usize;
+        let next = layout::read::shared(z, img, t, Header::NextTier) as usize;
         let counters = Counters::read(z, img, t);
-        layout::write::put_order(z, img, t, counters.order - 1);
+        layout::write::put_counter(z, img, t, Counter::Order, counters.order - 1);
         t = next;
     }
 }
@@ -35,7 +35,7 @@ fn close_up(z: Shape, img: &mut [u8], first: usize, p: u64)
     if first == 0 {
         return;
     }
-    layout::write::put_previous(z, img, first, p);
+    layout::write::put_counter(z, img, first, Counter::Previous, p);
 }
 
 // Tier t leaves its chain and becomes the first free tier. What is asked of t is read before the first write.
@@ -43,15 +43,15 @@ fn unlink(z: Shape, img: &mut [u8], t: usize)
     requires { CanUnlink z img.old t }
     ensures { img.new ≡ unlinking_unlink z img.old t }
 {
-    let next = layout::read::next_of(z, img, t);
+    let next = layout::read::shared(z, img, t, Header::NextTier);
     let counters = Counters::read(z, img, t);
-    let free = layout::read::first_free(z, img);
-    let used = layout::read::used_tiers(z, img);
+    let free = layout::read::global(z, img, Global::FirstFree);
+    let used = layout::read::global(z, img, Global::UsedTiers);
     close_up(z, img, next as usize, counters.previous);
-    layout::write::put_next(z, img, counters.previous as usize, next);
-    layout::write::put_next(z, img, t, free);
-    layout::write::put_first_free(z, img, t as u64);
-    layout::write::put_used_tiers(z, img, used - 1);
+    layout::write::put_shared(z, img, counters.previous as usize, Header::NextTier, next);
+    layout::write::put_shared(z, img, t, Header::NextTier, free);
+    layout::write::put_global(z, img, Global::FirstFree, t as u64);
+    layout::write::put_global(z, img, Global::UsedTiers, used - 1);
 }
 
 // It does so if it is an extra tier without entries.
@@ -62,7 +62,7 @@ pub fn unlink_empty(z: Shape, img: &mut [u8], t: usize)
     if t <= z.settings.segments {
         return;
     }
-    if layout::read::count_of(z, img, t) != 0 {
+    if layout::read::shared(z, img, t, Header::EntryCount) != 0 {
         return;
     }
     unlink(z, img, t);

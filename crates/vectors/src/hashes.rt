@@ -1,78 +1,68 @@
 // XXH64: published vectors, and every length to 300.
-use crate::print;
 use std::io;
 
-fn top(x: u64) -> u8 {
-    (x >> 56) as u8
-}
+// The texts whose hashes are published, and their names.
+const PUBLISHED: [(&str, &str); 9] = [
+    ("empty", ""),
+    ("a", "a"),
+    ("as", "as"),
+    ("asd", "asd"),
+    ("asdf", "asdf"),
+    ("abc", "abc"),
+    ("xxhash", "xxhash"),
+    ("nobody", "Nobody inspects the spammish repetition"),
+    (
+        "ishmael",
+        "Call me Ishmael. Some years ago--never mind how long precisely-",
+    ),
+];
 
 // The test bytes of xxHash's own self-test.
-fn sanity(s: &mut [u8]) {
+fn sanity() -> [u8; 222] {
+    let mut s = [0; 222];
     let mut g: u64 = 2654435761;
-    for i in 0..s.len() {
-        s[i] = top(g);
+    for b in &mut s {
+        *b = (g >> 56) as u8;
         g = xxh64::mul(g, 11400714785074694797);
     }
+    s
 }
 
 // The bytes 0, 1, 2 and so on, modulo 251.
-fn count_up(s: &mut [u8]) {
-    for i in 0..s.len() {
-        s[i] = (i % 251) as u8;
+fn count_up() -> [u8; 300] {
+    let mut s = [0; 300];
+    for (i, b) in s.iter_mut().enumerate() {
+        *b = (i % 251) as u8;
     }
+    s
 }
 
 // The length of s, and its hash.
 fn line(rt: &impl Print, s: &[u8]) -> io::Result<()> {
-    print::number(rt, s.len() as u64)?;
-    print::space(rt)?;
-    print::hash(rt, xxh64::xxh64(s))?;
-    print::end(rt)
+    print!(rt; "{} {:016x}\n", s.len(), xxh64::xxh64(s))
 }
 
-fn named(rt: &impl Print, name: &[u8], s: &[u8]) -> io::Result<()> {
-    print::text(rt, b"xxh64 ")?;
-    print::text(rt, name)?;
-    print::space(rt)?;
+fn named(rt: &impl Print, name: &str, s: &[u8]) -> io::Result<()> {
+    print!(rt; "xxh64 {name} ")?;
     line(rt, s)
 }
 
-fn sanities(rt: &impl Print) -> io::Result<()> {
-    let mut s = [0u8; 222];
-    sanity(&mut s);
-    named(rt, b"sanity", &s[0..1])?;
-    named(rt, b"sanity", &s[0..4])?;
-    named(rt, b"sanity", &s[0..14])?;
-    named(rt, b"sanity", &s)
-}
-
 pub fn published(rt: &impl Print) -> io::Result<()> {
-    named(rt, b"empty", b"")?;
-    named(rt, b"a", b"a")?;
-    named(rt, b"as", b"as")?;
-    named(rt, b"asd", b"asd")?;
-    named(rt, b"asdf", b"asdf")?;
-    named(rt, b"abc", b"abc")?;
-    named(rt, b"xxhash", b"xxhash")?;
-    named(rt, b"nobody", b"Nobody inspects the spammish repetition")?;
-    named(
-        rt,
-        b"ishmael",
-        b"Call me Ishmael. Some years ago--never mind how long precisely-",
-    )?;
-    sanities(rt)
-}
-
-// A line for each length to that of s.
-fn fronts(rt: &impl Print, s: &[u8]) -> io::Result<()> {
-    for n in 0..=s.len() {
-        line(rt, &s[0..n])?;
+    for (name, text) in PUBLISHED {
+        named(rt, name, text.as_bytes())?;
+    }
+    let s = sanity();
+    for n in [1, 4, 14, 222] {
+        named(rt, "sanity", &s[..n])?;
     }
     Ok(())
 }
 
+// A line for each length.
 pub fn counted(rt: &impl Print) -> io::Result<()> {
-    let mut s = [0u8; 300];
-    count_up(&mut s);
-    fronts(rt, &s)
+    let s = count_up();
+    for n in 0..=s.len() {
+        line(rt, &s[..n])?;
+    }
+    Ok(())
 }

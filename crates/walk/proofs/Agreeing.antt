@@ -5,6 +5,7 @@ use mathlib.Core.Path.{◌≡◌, refl, ap, sym, ◌∙◌}
 use mathlib.Core.Logic.{⊎_elim, ◌≢◌}
 use mathlib.Core.Bool.{true, false, false≢true}
 use native.Mathlib.Omega.{arith}
+use Rattle.std.specs.Prelude.{Option, Some, None}
 use lib.Dec.{eqb}
 use borrow.Author.Tests.{eqb-true, eqb-false}
 use Rattle.lists.specs.Cases.{by-test, same_or}
@@ -19,8 +20,7 @@ use Rattle.probe.specs.Ring.{next}
 use Rattle.chains.specs.Chains.{next_of, follow, end_of, chain, ChainFits}
 use Rattle.chains.proofs.Segments.{segments-le, chain-cons, chain-end, extras-of}
 use Rattle.chains.proofs.Tiers.{chain-tiers}
-use Rattle.entries.specs.declared.Stored.{Stored}
-use Rattle.entries.specs.declared.Stored.TheVariants.{Whole, Broken}
+use Rattle.entries.specs.declared.Entry.{Entry}
 use Rattle.entries.specs.Keys.{segment_of, lookup_key, slot_key}
 use Rattle.entries.specs.Stored.{stored, entry_of, chunks_for}
 use Rattle.entries.specs.Live.{slot_at, chunk_of, entry_at}
@@ -37,7 +37,8 @@ use Rattle.search.proofs.Seeking.{Seeking, seek-starts, seek-turns, seek-ends-em
 use Rattle.sound.specs.Sound.{SoundImage}
 use Rattle.sound.proofs.Sound.{sound-image}
 use Rattle.sound.proofs.Marked.{entry-long}
-use Rattle.walk.specs.declared.SlotMet.TheVariants.{Other, Same}
+use Rattle.std.specs.Prelude.{Some, None, Result, Ok}
+use Rattle.walk.specs.declared.Broken.{Broken as WalkBroken}
 use Rattle.walk.specs.declared.TierMet.{TierMet}
 use Rattle.walk.specs.declared.TierMet.TheVariants as tier
 use Rattle.walk.specs.declared.WalkEnd.{WalkEnd}
@@ -51,22 +52,22 @@ module _ (z : Shape) (img : List ℕ) where
   open settings use {segments, slots, chunks}
 
   -- what the search finds, with the entry that the walk gives beside it
-  abbrev pub tier_met : ℕ → Sought → TierMet
-  tier_met t (sought.Holds j) = tier.Holds j (entry_at z img t j)
-  tier_met t (sought.Empty j) = tier.Empty j
+  abbrev pub tier_met : ℕ → Sought → Result TierMet WalkBroken
+  tier_met t (sought.Holds j) = Ok (tier.Holds j (entry_at z img t j))
+  tier_met t (sought.Empty j) = Ok (tier.Empty j)
 
-  abbrev pub walk_end : Found → WalkEnd
-  walk_end (found.At t j) = end.Found t j (entry_at z img t j)
-  walk_end (found.Absent t j) = end.Absent t j
+  abbrev pub walk_end : Found → Result WalkEnd WalkBroken
+  walk_end (found.At t j) = Ok (end.Found t j (entry_at z img t j))
+  walk_end (found.Absent t j) = Ok (end.Absent t j)
 
   -- ---- an entry that fits passes the tests
 
   module _ (im : Image z img) (s t j : ℕ) (it : IsTier z t) (f : EntryFits z img s t j) where
-    ends_by : (r : Stored) → stored z img t (chunk_of z img t j) ≡ r → IsWhole r
+    ends_by : (r : Option Entry) → stored z img t (chunk_of z img t j) ≡ r → IsWhole r
         → chunk_of z img t j + chunks_for settings (entry_of r).keyLength (entry_of r).valueLength ≤ chunks
         → (entry_of r).valueAt + (entry_of r).valueLength ≤ chunk_at z t chunks
-    ends_by Broken e w h = absurd w
-    ends_by (Whole x) e w h =
+    ends_by None e w h = absurd w
+    ends_by (Some x) e w h =
         omega (
           arith,
           value-ends z img t (chunk_of z img t j) (whole-sound z img t (chunk_of z img t j) x e) im.framed.valid,
@@ -93,14 +94,14 @@ module _ (z : Shape) (img : List ℕ) where
       reads : EntryReads z img t (chunk_of z img t j)
       reads = fits-reads im s t j it (fits.full j h full)
 
-      slot-hit : hits z img key t (slot_at z img t j) ≡ true → at_slot z img key t (slot_at z img t j) ≡ Same (entry_at z img t j)
+      slot-hit : hits z img key t (slot_at z img t j) ≡ true → at_slot z img key t (slot_at z img t j) ≡ Ok (Some (entry_at z img t j))
       unfolding hits entry_at
       slot-hit e =
           by-test (eqb (slot_key settings (slot_at z img t j)) (lookup_key settings key))
           (λ q. sym (slot_same z img key t (slot_at z img t j) _ refl (eqb-true _ _ q) _ refl refl reads (rw q at e)))
           (λ q. absurd (false≢true (rw q at e)))
 
-      slot-miss : hits z img key t (slot_at z img t j) ≡ false → at_slot z img key t (slot_at z img t j) ≡ Other
+      slot-miss : hits z img key t (slot_at z img t j) ≡ false → at_slot z img key t (slot_at z img t j) ≡ Ok None
       unfolding hits
       slot-miss e =
           by-test (eqb (slot_key settings (slot_at z img t j)) (lookup_key settings key))
@@ -148,7 +149,7 @@ module _ (z : Shape) (img : List ℕ) where
       chain-step extra rest (sought.Holds j) q =
           tiers-found z img key n refl t j _ (same ∙ ap (tier_met t) q) ∙ ap walk_end (sym (search-here z img key u i t j _ q))
       chain-step extra rest (sought.Empty j) q =
-          let met : in_tier z img key t ≡ tier.Empty j = same ∙ ap (tier_met t) q in
+          let met : in_tier z img key t ≡ Ok (tier.Empty j) = same ∙ ap (tier_met t) q in
           let on : search_from z img key u i (t ∷ follow z img n (next_of z img t)) ≡ search_from z img key t j (follow z img n (next_of z img t)) =
           search-on z img key u i t j _ q in
           ⊎_elim

@@ -24,9 +24,8 @@ use Rattle.entries.specs.Keys.{lookup_key, slot_key, slot_chunk}
 use Rattle.entries.specs.Stored.{key_of}
 use Rattle.entries.specs.Live.{slot_at, chunk_of}
 use Rattle.entries.proofs.Hashes.{segment-lt}
-use Rattle.walk.specs.declared.SlotMet.{SlotMet}
-use Rattle.walk.specs.declared.SlotMet.TheVariants.{Other, Same}
-use Rattle.walk.specs.declared.SlotMet.TheVariants as slot
+use Rattle.std.specs.Prelude.{Option, Some, None, Result, Ok, Err}
+use Rattle.walk.specs.declared.Broken.{Broken}
 use Rattle.walk.specs.declared.TierMet.{TierMet}
 use Rattle.walk.specs.declared.TierMet.TheVariants as tier
 use Rattle.walk.specs.declared.WalkEnd.{WalkEnd}
@@ -44,20 +43,20 @@ module _ (z : Shape) (img key : List ℕ) where
     pub key_is : key_of img e ≡ key
     pub ends : e.valueAt + e.valueLength ≤ chunk_at z t chunks
 
-  abbrev SlotKeyed : ℕ → ℕ → SlotMet → Type 0
-  SlotKeyed t c (Same e) = Keyed t c e
-  SlotKeyed t c slot.Broken = Unit {0}
-  SlotKeyed t c Other = Unit {0}
+  abbrev SlotKeyed : ℕ → ℕ → Result (Option Entry) Broken → Type 0
+  SlotKeyed t c (Ok (Some e)) = Keyed t c e
+  SlotKeyed t c (Err _) = Unit {0}
+  SlotKeyed t c (Ok None) = Unit {0}
 
-  abbrev TierKeyed : ℕ → TierMet → Type 0
-  TierKeyed t (tier.Holds j e) = Keyed t (chunk_of z img t j) e
-  TierKeyed t (tier.Empty j) = Unit {0}
-  TierKeyed t tier.Broken = Unit {0}
+  abbrev TierKeyed : ℕ → Result TierMet Broken → Type 0
+  TierKeyed t (Ok (tier.Holds j e)) = Keyed t (chunk_of z img t j) e
+  TierKeyed t (Ok (tier.Empty j)) = Unit {0}
+  TierKeyed t (Err _) = Unit {0}
 
-  abbrev pub EndKeyed : WalkEnd → Type 0
-  EndKeyed (end.Found t j e) = IsTier z t × Keyed t (chunk_of z img t j) e
-  EndKeyed (end.Absent t j) = Unit {0}
-  EndKeyed end.Broken = Unit {0}
+  abbrev pub EndKeyed : Result WalkEnd Broken → Type 0
+  EndKeyed (Ok (end.Found t j e)) = IsTier z t × Keyed t (chunk_of z img t j) e
+  EndKeyed (Ok (end.Absent t j)) = Unit {0}
+  EndKeyed (Err _) = Unit {0}
 
   compared-keyed : (t c : ℕ) → EntryReads z img t c → SlotKeyed t c (compared z img key (entry_there z img t c))
   unfolding compared
@@ -83,12 +82,12 @@ module _ (z : Shape) (img key : List ℕ) where
       (λ (full : slot_at z img t j ≢ 0). by-met full (at_slot z img key t (slot_at z img t j)) refl (slots-keyed t n (next slots j)))
       (same_or (slot_at z img t j) 0)
     where
-      by-met : slot_at z img t j ≢ 0 → (m : SlotMet) → at_slot z img key t (slot_at z img t j) ≡ m
+      by-met : slot_at z img t j ≢ 0 → (m : Result (Option Entry) Broken) → at_slot z img key t (slot_at z img t j) ≡ m
           → TierKeyed t (over_slots z img key t n (next slots j)) → TierKeyed t (over_slots z img key t (suc n) j)
-      by-met full (Same e) q rest =
+      by-met full (Ok (Some e)) q rest =
           rw (slots-holds z img key t n refl j full e q) (subst (SlotKeyed t (chunk_of z img t j)) q (slot-keyed t (slot_at z img t j)))
-      by-met full slot.Broken q rest = rw (slots-broken z img key t n refl j full q) tt
-      by-met full Other q rest = rw (slots-pass z img key t n refl j full q) rest
+      by-met full (Err _) q rest = rw (slots-broken z img key t n refl j full q) tt
+      by-met full (Ok None) q rest = rw (slots-pass z img key t n refl j full q) rest
 
   tier-keyed : (t : ℕ) → TierKeyed t (in_tier z img key t)
   unfolding in_tier
@@ -98,11 +97,11 @@ module _ (z : Shape) (img key : List ℕ) where
   tiers-keyed zero t it = rw (tiers-out z img key zero t (omega arith)) tt
   tiers-keyed (suc n) t it = by-met (in_tier z img key t) refl (λ extra. tiers-keyed n (next_of z img t) (omega (arith, extra)))
     where
-      by-met : (m : TierMet) → in_tier z img key t ≡ m → (IsExtra z (next_of z img t) → EndKeyed (from_tier z img key n (next_of z img t)))
+      by-met : (m : Result TierMet Broken) → in_tier z img key t ≡ m → (IsExtra z (next_of z img t) → EndKeyed (from_tier z img key n (next_of z img t)))
           → EndKeyed (from_tier z img key (suc n) t)
-      by-met (tier.Holds j e) q rest = rw (tiers-found z img key n refl t j e q) (it, subst (TierKeyed t) q (tier-keyed t))
-      by-met tier.Broken q rest = rw (tiers-broken z img key n refl t q) tt
-      by-met (tier.Empty j) q rest =
+      by-met (Ok (tier.Holds j e)) q rest = rw (tiers-found z img key n refl t j e q) (it, subst (TierKeyed t) q (tier-keyed t))
+      by-met (Err _) q rest = rw (tiers-broken z img key n refl t q) tt
+      by-met (Ok (tier.Empty j)) q rest =
           ⊎_elim
           (λ (e : next_of z img t ≡ 0). rw (tiers-end z img key n refl t j q e) tt)
           (λ (more : next_of z img t ≢ 0).

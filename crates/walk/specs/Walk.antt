@@ -1,6 +1,6 @@
 -- The walk of a quick lookup: along the chain of the key's segment, in each tier slot by slot upward from the start slot. What it meets
 -- is tested, and nothing else.
-use Rattle.std.specs.Prelude.{ℕ, zero, suc, ◌+◌, ◌≤◌, ◌<◌, List, true, false, eqb}
+use Rattle.std.specs.Prelude.{ℕ, zero, suc, ◌+◌, ◌≤◌, ◌<◌, List, true, false, eqb, Option, Some, None, Result, Ok, Err}
 use Rattle.std.proofs.Math.Decide.{dec_le, dec_lt}
 use Rattle.lists.specs.Decide.{rule, choose}
 use Rattle.words.specs.Bytes.{same}
@@ -14,14 +14,15 @@ use Rattle.entries.specs.Keys.{longest_key, segment_of, lookup_key, start, slot_
 use Rattle.entries.specs.Stored.{stored, entry_of, key_of, longest_value}
 use Rattle.entries.specs.Live.{slot_at}
 use Rattle.search.specs.Rules.{IsWhole, is_whole?}
-use Rattle.walk.specs.declared.SlotMet.{SlotMet}
-use Rattle.walk.specs.declared.SlotMet.TheVariants.{Other, Same}
-use Rattle.walk.specs.declared.SlotMet.TheVariants as slot
+use Rattle.walk.specs.declared.Broken.{Broken}
 use Rattle.walk.specs.declared.TierMet.{TierMet}
 use Rattle.walk.specs.declared.TierMet.TheVariants.{Holds, Empty}
-use Rattle.walk.specs.declared.TierMet.TheVariants as tier
 use Rattle.walk.specs.declared.WalkEnd.{WalkEnd}
-use Rattle.walk.specs.declared.WalkEnd.TheVariants.{Found, Absent, Broken}
+use Rattle.walk.specs.declared.WalkEnd.TheVariants.{Found, Absent}
+
+-- what is answered where something broken is met
+abbrev pub broken : {A : Type 0} → Result A Broken
+broken = Err (record {})
 
 -- ---- what is tested where a slot has the key's lookup key: chunk c of tier t, which the slot names, and the entry there
 
@@ -58,47 +59,47 @@ module _ (z : Shape) (img key : List ℕ) where
 
   -- ---- a full slot of tier t that holds v: the entry is tested before the whole keys are compared
 
-  unfoldable pub compared : Entry → SlotMet
-  compared e = elim (same (key_of img e) key) [ true ↦ Same e | false ↦ Other ]
+  unfoldable pub compared : Entry → Result (Option Entry) Broken
+  compared e = elim (same (key_of img e) key) [ true ↦ Ok (Some e) | false ↦ Ok None ]
 
-  unfoldable pub tested : (t c : ℕ) → Dec (EntryReads z img t c) → SlotMet
-  tested t c d = choose d (λ _. slot.Broken) (λ _. compared (entry_there z img t c))
+  unfoldable pub tested : (t c : ℕ) → Dec (EntryReads z img t c) → Result (Option Entry) Broken
+  tested t c d = choose d (λ _. broken) (λ _. compared (entry_there z img t c))
 
-  unfoldable pub at_slot : (t v : ℕ) → SlotMet
+  unfoldable pub at_slot : (t v : ℕ) → Result (Option Entry) Broken
   at_slot t v =
       elim (eqb (slot_key settings v) (lookup_key settings key)) [
         | true ↦ tested t (slot_chunk settings v) (entry_reads? z img t (slot_chunk settings v))
-        | false ↦ Other
+        | false ↦ Ok None
       ]
 
   -- ---- tier t from slot j on, over at most n slots: up to the whole key, an empty slot, or something broken
 
-  unfoldable pub over_slots : (t n j : ℕ) → TierMet
-  over_slots t zero j = tier.Broken
+  unfoldable pub over_slots : (t n j : ℕ) → Result TierMet Broken
+  over_slots t zero j = broken
   over_slots t (suc n) j =
       elim (eqb (slot_at z img t j) 0) [
-        | true ↦ Empty j
-        | false ↦ elim (at_slot t (slot_at z img t j)) [ Same e ↦ Holds j e | slot.Broken ↦ tier.Broken | Other ↦ over_slots t n (next slots j) ]
+        | true ↦ Ok (Empty j)
+        | false ↦ elim (at_slot t (slot_at z img t j)) [ Ok (Some e) ↦ Ok (Holds j e) | Err _ ↦ broken | Ok None ↦ over_slots t n (next slots j) ]
       ]
 
   -- the whole tier: all its slots without an empty one are something broken
-  unfoldable pub in_tier : (t : ℕ) → TierMet
+  unfoldable pub in_tier : (t : ℕ) → Result TierMet Broken
   in_tier t = over_slots t slots (start settings (lookup_key settings key))
 
   -- ---- from tier t on, over at most n tiers; an empty slot leads to the tier's next, which is 0 or an extra tier
 
-  unfoldable pub from_tier : (n t : ℕ) → WalkEnd
-  from_tier zero t = Broken
+  unfoldable pub from_tier : (n t : ℕ) → Result WalkEnd Broken
+  from_tier zero t = broken
   from_tier (suc n) t =
       elim (in_tier t) [
-        | Holds j e ↦ Found t j e
-        | tier.Broken ↦ Broken
-        | Empty j ↦ elim (eqb (next_of z img t) 0) [
-          | true ↦ Absent t j
-          | false ↦ choose (is_extra? z img (next_of z img t)) (λ _. Broken) (λ _. from_tier n (next_of z img t))
+        | Ok (Holds j e) ↦ Ok (Found t j e)
+        | Err _ ↦ broken
+        | Ok (Empty j) ↦ elim (eqb (next_of z img t) 0) [
+          | true ↦ Ok (Absent t j)
+          | false ↦ choose (is_extra? z img (next_of z img t)) (λ _. broken) (λ _. from_tier n (next_of z img t))
         ]
       ]
 
   -- the walk: over at most all the tiers
-  unfoldable pub walk : WalkEnd
+  unfoldable pub walk : Result WalkEnd Broken
   walk = from_tier (tiers z) (suc (segment_of settings key))

@@ -7,62 +7,51 @@ ghost use Rattle.search.specs.Asking.{Seeks};
 ghost use Rattle.walk.specs.Walk.{at_slot as walk_at_slot, in_tier as walk_in_tier, walk as walk_walk};
 ghost use Rattle.walk.specs.Telling.{Walkable, ReadsSay};
 
-use entries::{Entry, Stored};
-use layout::Shape;
-use leb128::Decoded;
+use entries::Entry;
+use layout::{Header, Shape};
 use probe::Cursor;
 
-// What a full slot is: another key's, the key's with its entry, or broken.
+// The walk met something broken.
 #[derive(Clone, Copy)]
-pub enum SlotMet {
-    Other,
-    Same(Entry),
-    Broken,
-}
+pub struct Broken;
 
-// Where the walk ends in one tier: at the key's slot, with its entry; at an empty slot; at something broken.
+// Where the walk ends in one tier: at the key's slot, with its entry, or at an empty slot. Neither is an error.
 #[derive(Clone, Copy)]
 pub enum TierMet {
     Holds(usize, Entry),
     Empty(usize),
-    Broken,
 }
 
-// Where it ends: at the key's tier and slot, with its entry; at the empty slot of the last tier; at something broken.
+// Where it ends: at the key's tier and slot, with its entry, or at the empty slot of the last tier. Neither is an error.
 #[derive(Clone, Copy)]
 pub enum WalkEnd {
     Found(usize, usize, Entry),
     Absent(usize, usize),
-    Broken,
 }
 
 // The entry at chunk c of tier t where it passes the tests: its lengths, their ranges, and where it ends. It is read here and not by
 // `entries::read::stored`, which would be given a copy of the whole shape for each slot.
-fn tested_entry(z: Shape, img: &[u8], t: usize, c: usize) -> Stored
+fn tested_entry(z: Shape, img: &[u8], t: usize, c: usize) -> Option<Entry>
     requires { FramedTier z img.now t }
     ensures { ReadsSay z img.now t c result }
 {
     if z.settings.chunks <= c {
-        return Stored::Broken;
+        return None;
     }
     let end = layout::chunk_at(z, t, z.settings.chunks);
     let bytes = &img[..end];
-    let Decoded::Number(k, at) = leb128::read(bytes, layout::chunk_at(z, t, c)) else {
-        return Stored::Broken;
-    };
+    let (k, at) = leb128::read(bytes, layout::chunk_at(z, t, c))?;
     if k < 1 {
-        return Stored::Broken;
+        return None;
     }
     if entries::LONGEST_KEY < k {
-        return Stored::Broken;
+        return None;
     }
-    let Decoded::Number(v, after) = leb128::read(bytes, at + k) else {
-        return Stored::Broken;
-    };
+    let (v, after) = leb128::read(bytes, at + k)?;
     if end < after + v {
-        return Stored::Broken;
+        return None;
     }
-    Stored::Whole(Entry {
+    Some(Entry {
         keyAt: at,
         keyLength: k,
         valueAt: after,
@@ -70,26 +59,34 @@ fn tested_entry(z: Shape, img: &[u8], t: usize, c: usize) -> Stored
     })
 }
 
-// A full slot of tier t that holds v. Where the lookup key is the key's its entry is tested, and then the whole keys are compared.
-fn at_slot(z: Shape, img: &[u8], key: &[u8], lookup: u64, t: usize, v: u64) -> SlotMet
+// The key's entry at a full slot of tier t that holds v, or nothing where the slot is another key's. Where the lookup key is the key's the
+// entry is tested, and then the whole keys are compared.
+fn at_slot(
+    z: Shape,
+    img: &[u8],
+    key: &[u8],
+    lookup: u64,
+    t: usize,
+    v: u64,
+) -> Result<Option<Entry>, Broken>
     requires { Seeks z img.now key.now lookup t }
     ensures { result ≡ walk_at_slot z img.now key.now t v }
 {
     let st = z.settings;
     if entries::keys::slot_key(st, v) != lookup {
-        return SlotMet::Other;
+        return Ok(None);
     }
-    let Stored::Whole(e) = tested_entry(z, img, t, entries::keys::slot_chunk(st, v)) else {
-        return SlotMet::Broken;
+    let Some(e) = tested_entry(z, img, t, entries::keys::slot_chunk(st, v)) else {
+        return Err(Broken);
     };
     if entries::read::same_key(img, e.keyAt, e.keyLength, key) {
-        return SlotMet::Same(e);
+        return Ok(Some(e));
     }
-    SlotMet::Other
+    Ok(None)
 }
 
 // The walk over the slots of tier t.
-fn in_tier(z: Shape, img: &[u8], key: &[u8], lookup: u64, t: usize) -> TierMet
+fn in_tier(z: Shape, img: &[u8], key: &[u8], lookup: u64, t: usize) -> Result<TierMet, Broken>
     requires { Seeks z img.now key.now lookup t }
     ensures { result ≡ walk_in_tier z img.now key.now t }
 {
@@ -97,64 +94,43 @@ fn in_tier(z: Shape, img: &[u8], key: &[u8], lookup: u64, t: usize) -> TierMet
         slot: entries::keys::start(z.settings, lookup),
         slots: z.settings.slots,
     };
-    let mut left = z.settings.slots;
-    while 0 < left {
+    for _ in 0..z.settings.slots {
         let v = layout::read::slot(z, img, t, cursor.slot);
         if v == 0 {
-            return TierMet::Empty(cursor.slot);
+            return Ok(TierMet::Empty(cursor.slot));
         }
-        let met = at_slot(z, img, key, lookup, t, v);
-        match met {
-            SlotMet::Same(e) => {
-                return TierMet::Holds(cursor.slot, e);
-            }
-            SlotMet::Broken => {
-                return TierMet::Broken;
-            }
-            SlotMet::Other => {
-                cursor = cursor.step();
-            }
+        if let Some(e) = at_slot(z, img, key, lookup, t, v)? {
+            return Ok(TierMet::Holds(cursor.slot, e));
         }
-        left -= 1;
+        cursor = cursor.step();
     }
-    TierMet::Broken
+    Err(Broken)
 }
 
 // The walk for a key, whose hash is given, through the chain of its segment.
-pub fn walk(z: Shape, img: &[u8], key: &[u8], h: u64) -> WalkEnd
+pub fn walk(z: Shape, img: &[u8], key: &[u8], h: u64) -> Result<WalkEnd, Broken>
     requires { Walkable z img.now key.now h }
     ensures { result ≡ walk_walk z img.now key.now }
 {
     let lookup = entries::keys::lookup_of_hash(z.settings, h);
     let most = layout::tier_count(z);
     let mut t = entries::keys::segment_of_hash(z.settings, h) + 1;
-    let mut tiers = most;
-    let mut slot = 0;
-    while 0 < tiers {
-        let met = in_tier(z, img, key, lookup, t);
-        match met {
-            TierMet::Holds(j, e) => {
-                return WalkEnd::Found(t, j, e);
-            }
-            TierMet::Broken => {
-                return WalkEnd::Broken;
-            }
-            TierMet::Empty(j) => {
-                slot = j;
-            }
-        }
-        let next = layout::read::next_of(z, img, t) as usize;
+    for _ in 0..most {
+        let slot = match in_tier(z, img, key, lookup, t)? {
+            TierMet::Holds(j, e) => return Ok(WalkEnd::Found(t, j, e)),
+            TierMet::Empty(j) => j,
+        };
+        let next = layout::read::shared(z, img, t, Header::NextTier) as usize;
         if next == 0 {
-            return WalkEnd::Absent(t, slot);
+            return Ok(WalkEnd::Absent(t, slot));
         }
         if next <= z.settings.segments {
-            return WalkEnd::Broken;
+            return Err(Broken);
         }
         if most < next {
-            return WalkEnd::Broken;
+            return Err(Broken);
         }
         t = next;
-        tiers -= 1;
     }
-    WalkEnd::Broken
+    Err(Broken)
 }

@@ -4,13 +4,15 @@ use mathlib.Core.List.{List, ◌++◌}
 use mathlib.Core.Path.{◌≡◌, refl, ap, ◌∙◌}
 use mathlib.Core.Logic.{◌⊎◌, inl, inr, ⊎_elim}
 use native.Mathlib.Omega.{arith}
-use native.Mathlib.Nat.{sub_self, pow-le-pow_right, sub-zero, add-zero, pow-suc}
+use native.Mathlib.Nat.{sub-zero, add-zero, zero-add, pow-suc, pow-le-pow_right}
 use native.Mathlib.Numerals.{add-one, towards_numerals}
-use lib.ListN.{length, get_or, set, length-set, get_or-append}
-use lib.Seq.{sets, length-sets, get_or-set_same}
-use Rattle.words.specs.Bytes.{Bytes, Apart}
+use lib.ListN.{length, get_or, set, drop, replicate, length-set, get_or-append}
+use lib.Seq.{sets, length-sets, get_or-set_same, get_or-drop}
+use Rattle.std.proofs.lemmas.List.{get_or-append_right}
+use Rattle.std.specs.Int.{w64, from_le_bytes}
+use Rattle.words.specs.Bytes.{Bytes, Apart, cut}
 use Rattle.words.specs.Numbers.{le, le_bytes, put_le, be}
-use Rattle.words.proofs.Bytes.{get_or-sets-out, bytes-sets}
+use Rattle.words.proofs.Bytes.{get_or-sets-out, bytes-sets, length_cut, get_or-cut}
 
 -- ---- the bytes of a number
 
@@ -104,35 +106,47 @@ pub le_four : (l : List ℕ) (at : ℕ)
 unfolding le
 le_four l at = simp towards_numerals (omega arith)
 
-pub le-eight : (l : List ℕ) (at : ℕ) → le l at 8 ≡ le l at 4 + le l (at + 4) 4 * 4294967296
+-- ---- the read, by eight bytes: those of the number, and zeros above
+
+le-none : (l : List ℕ) (at n : ℕ) → ((i : ℕ) → at ≤ i → get_or l i 0 ≡ 0) → le l at n ≡ 0
 unfolding le
-le-eight l at = simp towards_numerals (omega arith)
+le-none l at zero z = refl
+le-none l at (suc n) z = omega (arith, z at (omega arith), le-none l (suc at) n (λ i h. z i (omega arith)))
 
--- ---- the loop that reads, from the highest byte down: the sum is that of the bytes from k on
-
-pub record ReadingLe (l : List ℕ) (at n sum k : ℕ) : Type 0 where
-  pub low : k ≤ n
-  pub is : sum ≡ le l (at + k) (n - k)
-  pub fits : sum < 256 ^ (n - k)
-
-pub le-starts : (l : List ℕ) (at n : ℕ) → ReadingLe l at n 0 n
+-- zeros above the n lowest bytes add nothing
+le-above : (l : List ℕ) (at n m : ℕ) → ((i : ℕ) → at + n ≤ i → get_or l i 0 ≡ 0) → le l at (n + m) ≡ le l at n
 unfolding le
-le-starts l at n = record { low = omega arith; is = rw sub_self; fits = rw sub_self (omega arith) }
+le-above l at zero m z = rw zero-add (le-none l at m (λ i h. z i (omega arith)))
+le-above l at (suc n) m z =
+    let e : suc n + m ≡ suc (n + m) = omega arith in rw (e, le-above l (suc at) n m (λ i h. z i (omega arith)))
 
-pub le-turns : {l : List ℕ} {at n sum k : ℕ} → ReadingLe l at n sum k → (b : ℕ) → 0 < k → b ≡ get_or l (at + (k - 1)) 0 → b < 256
-    → ReadingLe l at n (sum * 256 + b) (k - 1)
+le-eight_bytes : (bs : List ℕ) → from_le_bytes w64 bs ≡ le bs 0 8
 unfolding le
-le-turns {l} {at} {n} {sum} {k} r b pos e lt =
-    let one : n - (k - 1) ≡ suc (n - k) = omega (arith, r.low) in
-    let same : suc (at + (k - 1)) ≡ at + k = omega arith in
-    record { low = omega (arith, r.low); is = rw (one, le, same, ← r.is) (omega arith); fits = rw (one, pow-suc) (omega (arith, r.fits)) }
+le-eight_bytes bs = simp towards_numerals (omega arith)
 
-pub le-ends : {l : List ℕ} {at n sum k : ℕ} → ReadingLe l at n sum k → k ≤ 0 → (sum ≡ le l at n) × (sum < 256 ^ n)
-le-ends {l} {at} {n} {sum} {k} r z =
-    let e : k ≡ 0 = omega arith in
-    let f : sum ≡ le l (at + k) (n - k) = r.is in
-    let g : sum < 256 ^ (n - k) = r.fits in
-    (rw (e, add-zero, sub-zero) at f, rw (e, sub-zero) at g)
+zeros : (k i : ℕ) → ◌≡◌ {A = ℕ} (get_or (replicate k 0) i 0) 0
+zeros zero i = refl
+zeros (suc k) zero = refl
+zeros (suc k) (suc i) = zeros k i
+
+pub le-padded : (l bs : List ℕ) (at n : ℕ) {v : ℕ} → Bytes l → (at + n ≤ length l) × (n ≤ 8) → bs ≡ cut l at (at + n - at)
+    → v ≡ from_le_bytes w64 (bs ++ drop n (replicate 8 0))
+    → (v ≡ le l at n) × (v < 256 ^ n)
+le-padded l bs at n b r copied e =
+    let k : at + n - at ≡ n = omega arith in
+    let is : bs ≡ cut l at n = rw k at copied in
+    let long : length bs ≡ n = ap length is ∙ length_cut l at n r.0 in
+    let padded : List ℕ = bs ++ drop n (replicate 8 0) in
+    let all : n + (8 - n) ≡ 8 = omega (arith, r.1) in
+    let above : (i : ℕ) → 0 + n ≤ i → get_or padded i 0 ≡ 0 =
+    λ i h. get_or-append_right bs _ n i 0 long (omega arith) ∙ get_or-drop n (replicate 8 0) (i - n) 0 ∙ zeros 8 (n + (i - n))
+    in
+    let below : (j : ℕ) → j < n → get_or padded (0 + j) 0 ≡ get_or l (at + j) 0 =
+    λ j h. rw zero-add (get_or-append bs _ 0 j (omega arith) ∙ ap (λ (x : List ℕ). get_or x j 0) is ∙ get_or-cut l at n j h)
+    in
+    let sum : le padded 0 (n + (8 - n)) ≡ le l at n = le-above padded 0 n (8 - n) above ∙ le_same padded l 0 at n below in
+    let same : _ ≡ le l at n = e ∙ le-eight_bytes padded ∙ rw all at sum in
+    (same, rw same (le-lt l at n b))
 
 -- what stands after its bytes does not matter
 pub be-append : (l rest : List ℕ) (at n : ℕ) → at + n ≤ length l → be (l ++ rest) at n ≡ be l at n

@@ -5,10 +5,10 @@ use mathlib.Core.Path.{◌≡◌, refl, sym, ◌∙◌}
 use lib.IntN.{pos, negsuc, pos-ne-negsuc}
 use Rattle.words.specs.Numbers.{le}
 use Rattle.settings.specs.Worked.{fields_x, block_with}
-use Rattle.pairs.specs.declared.Asked.{Asked}
-use Rattle.pairs.specs.declared.Asked.TheVariants as asked
+use Rattle.std.specs.Prelude.{Some, Ok, Err}
+use Rattle.pairs.specs.declared.AskError.TheVariants as ask
 use Rattle.pairs.specs.Pairs.{record_delay, record_fits?}
-use Rattle.pairs.specs.Delays.{from_record, asked_reply}
+use Rattle.pairs.specs.Delays.{Asked, from_record, asked_reply}
 use Rattle.pairs.proofs.Answering.{record_yes, wrong-number}
 use Rattle.worked.specs.Everything.{everything}
 use Rattle.worked.specs.Worked.{block_x, Case, reply_numbers, got, due, earlier}
@@ -42,15 +42,15 @@ read a b r = from_record a b r (record_fits? r)
 abbrev says : Asked → List ℕ
 says x = reply_numbers (asked_reply x)
 
-first-order : asked.Found (pos 16) ≡ read 1 2 sixteen
+first-order : Ok (Some (pos 16)) ≡ read 1 2 sixteen
 unfolding record_delay le
 first-order = record_yes 1 2 sixteen (refl, pos-ne-negsuc 16 2147483647)
 
-other-order : asked.Found (negsuc 15) ≡ read 2 1 sixteen
+other-order : Ok (Some (negsuc 15)) ≡ read 2 1 sixteen
 unfolding record_delay le
 other-order = record_yes 2 1 sixteen (refl, pos-ne-negsuc 16 2147483647)
 
-no-delay : asked.BadDelay ≡ read 1 2 most
+no-delay : Err ask.BadDelay ≡ read 1 2 most
 unfolding le
 no-delay = wrong-number 1 2 most 2147483648 refl refl
 

@@ -1,5 +1,4 @@
 use Rattle.chains.proofs.Segments.{all-long, all-counting, all_short}
-use mathlib.Core.Path.{◌∙◌}
 use native.Mathlib.Omega.{arith}
 use Rattle.chains.proofs.Walking.{told-ended, told-lost}
 use borrow.Author.Rules.{rules}
@@ -16,13 +15,10 @@ chain_fits-requires c =
       segment_in = search rules;
     }
 
-pub shape_of-times-in_default : goal.shape_of-times-in_default
-shape_of-times-in_default c = c.chain_fits.auto.times ∙ all-long c.args.z c.args.img.now c.loop-s.invariant
-
-pub returns-in_default : goal.returns-in_default
-returns-in_default c =
-    all-lost c.args.z c.args.img.now (omega arith)
-    (told-lost c.chain_fits.ensures c.in_default.is)
+pub returns-in_err-total : goal.returns-in_err-total
+returns-in_err-total c =
+    rw c.from_residual.ensures (all-lost c.args.z c.args.img.now (omega arith)
+    (told-lost c.chain_fits.ensures c.in_err-total.was))
 
 pub overflow_add-total : goal.overflow_add-total
 overflow_add-total c =
@@ -30,14 +26,14 @@ overflow_add-total c =
       arith,
       all_short c.args.z c.args.img.now
           (all-turns c.args.z c.args.img.now c.loop-s.invariant c.loop-s-test.true
-          (told-ended c.chain_fits.ensures c.in-Ended.is))
+          (told-ended c.chain_fits.ensures c.in_ok-total.was))
           c.requires.framed.valid.segments.1.1 c.requires.framed.tier_count,
     )
 
 pub loop-s-preserved : goal.loop-s-preserved
 loop-s-preserved c =
     all-turns c.args.z c.args.img.now c.loop-s.invariant c.loop-s-test.true
-    (told-ended c.chain_fits.ensures c.in-Ended.is)
+    (told-ended c.chain_fits.ensures c.in_ok-total.was)
 
 pub shape_of-times : goal.shape_of-times
 shape_of-times c = all-long c.args.z c.args.img.now c.loop-s.invariant

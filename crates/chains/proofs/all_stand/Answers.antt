@@ -15,15 +15,15 @@ returns-then-not-stands c =
     λ f. decided-false c.stands.result c.stands.ensures c.if-not-stands.true
     (rw (c.loop-i.invariant.here (omega arith), c.loop-i.invariant.before) (f c.loop-i.i (omega arith)))
 
-pub next_of-t-requires : goal.next_of-t-requires
-next_of-t-requires c = (c.requires.framed, standing-tier _ _ _ _ c.requires c.loop-i.invariant (omega arith))
+pub shared-t-requires : goal.shared-t-requires
+shared-t-requires c = (c.requires.framed, standing-tier _ _ _ _ c.requires c.loop-i.invariant (omega arith))
 
 pub loop-i-preserved : goal.loop-i-preserved
 loop-i-preserved c =
     standing-turns c.args.z c.args.img.now c.args.s c.args.n c.requires c.loop-i.invariant (omega arith)
     (rw (← c.loop-i.invariant.here (omega arith), ← c.loop-i.invariant.before)
     (decided_true c.stands.result c.stands.ensures c.if-not-stands.false))
-    c.next_of-t.ensures
+    c.shared-t.ensures
 
 pub returns : goal.returns
 returns c = standing-ends _ _ _ _ c.requires c.loop-i.invariant (omega arith)

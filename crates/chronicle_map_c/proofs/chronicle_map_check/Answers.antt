@@ -8,4 +8,4 @@ pub returns-in-Accepted : goal.returns-in-Accepted
 returns-in-Accepted c = told outcome_numbers c.in-Accepted.is (ap (λ (v : Verdict). v.outcome) c.check-verdict.ensures)
 
 pub returns-in-Refused : goal.returns-in-Refused
-returns-in-Refused c = told-first outcome_numbers c.in-Refused.is (ap (λ (v : Verdict). v.outcome) c.check-verdict.ensures) refl c.stage_number.ensures
+returns-in-Refused c = told-first outcome_numbers c.in-Refused.is (ap (λ (v : Verdict). v.outcome) c.check-verdict.ensures) refl c.from.ensures

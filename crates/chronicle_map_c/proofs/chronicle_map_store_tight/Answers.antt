@@ -2,4 +2,4 @@ use Rattle.chronicle_map_c.proofs.Telling.{edited}
 use Rattle.chronicle_map_c.proofs.chronicle_map_store_tight.Goals as goal
 
 pub returns : goal.returns
-returns c = let e = edited c.answer_number.ensures c.store_tight.ensures in record { number = e.0; image = e.1 }
+returns c = let e = edited c.edit_number.ensures c.store_tight.ensures in record { number = e.0; image = e.1 }

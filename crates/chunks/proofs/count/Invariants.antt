@@ -1,9 +1,5 @@
 use Rattle.chunks.proofs.Covering.{Counting}
-use Prim.Native.Nat.{◌-◌}
 use Rattle.chunks.proofs.count.Given as goal
 
 abbrev pub invariant-loop-i : goal.invariant-loop-i
 invariant-loop-i l = Counting l.initial.covered l.c l.n l.covered l.i
-
-abbrev pub decreases-loop-i : goal.decreases-loop-i
-decreases-loop-i l = l.n - l.i

@@ -1,9 +1,6 @@
 use Rattle.lists.proofs.Decides.{decided_true, decided-false}
-use Rattle.chunks.proofs.Freeing.{free-starts, free-ends, free-tier, free-lost, free-less, free-turns}
+use Rattle.chunks.proofs.Freeing.{free-ends, free-tier, free-lost, free-less, free-turns}
 use Rattle.chunks.proofs.free_fits.Goals as goal
-
-pub loop-t-init : goal.loop-t-init
-loop-t-init c = free-starts c.args.z c.args.img.now c.requires.free_fits c.first_free-t.ensures
 
 pub slots_empty-requires : goal.slots_empty-requires
 slots_empty-requires c =
@@ -29,18 +26,18 @@ returns-then-not-all_clear c =
     free-lost c.args.z c.args.img.now c.requires.free_fits c.loop-t.invariant c.loop-t-test.true
     (λ f. decided-false c.all_clear.result c.all_clear.ensures c.if-not-all_clear.true f.chunks_clear)
 
-pub next_of-t-requires : goal.next_of-t-requires
-next_of-t-requires c = (
+pub shared-t-requires : goal.shared-t-requires
+shared-t-requires c = (
   c.requires.framed,
   free-tier c.args.z c.args.img.now c.requires.free_fits c.loop-t.invariant c.loop-t-test.true,
 )
 
 pub loop-t-smaller : goal.loop-t-smaller
-loop-t-smaller c = free-less c.args.z c.args.img.now c.requires.free_fits c.loop-t.invariant c.loop-t-test.true c.next_of-t.ensures
+loop-t-smaller c = free-less c.args.z c.args.img.now c.requires.free_fits c.loop-t.invariant c.loop-t-test.true c.shared-t.ensures
 
 pub loop-t-preserved : goal.loop-t-preserved
 loop-t-preserved c =
-    free-turns c.args.z c.args.img.now c.requires.free_fits c.loop-t.invariant c.loop-t-test.true c.next_of-t.ensures
+    free-turns c.args.z c.args.img.now c.requires.free_fits c.loop-t.invariant c.loop-t-test.true c.shared-t.ensures
     (record {
       slots_empty = decided_true c.slots_empty.result c.slots_empty.ensures c.if-not-slots_empty.false;
       chunks_clear = decided_true c.all_clear.result c.all_clear.ensures c.if-not-all_clear.false;

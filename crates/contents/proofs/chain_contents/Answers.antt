@@ -28,12 +28,12 @@ joined-sum-requires c =
           c.tier_contents-tier.ensures.says;
     }
 
-pub next_of-t-requires : goal.next_of-t-requires
-next_of-t-requires c =
+pub shared-t-requires : goal.shared-t-requires
+shared-t-requires c =
     (c.requires.chains.framed, chain-tier (c.requires) (summing_in c.args.z c.args.img.now c.loop-t.invariant c.requires.fits c.loop-t-test.true))
 
 pub loop-t-smaller : goal.loop-t-smaller
-loop-t-smaller c = summing_less c.args.z c.args.img.now c.loop-t.invariant c.requires.fits c.loop-t-test.true c.next_of-t.ensures
+loop-t-smaller c = summing_less c.args.z c.args.img.now c.loop-t.invariant c.requires.fits c.loop-t-test.true c.shared-t.ensures
 
 pub loop-t-preserved : goal.loop-t-preserved
 loop-t-preserved c =
@@ -46,18 +46,18 @@ loop-t-preserved c =
       | else-t-s-2 w ↦ λ e. c.loop-t.invariant.alone (sym w.apart-is ∙ e)
     ] in
     summing_turns c.args.z c.args.img.now c.loop-t.invariant c.requires.fits c.loop-t-test.true c.tier_contents-tier.ensures c.joined-sum.ensures known
-    c.next_of-t.ensures
+    c.shared-t.ensures
 
-pub next_of-requires : goal.next_of-requires
-next_of-requires c = (
+pub shared-requires : goal.shared-requires
+shared-requires c = (
   c.requires.chains.framed,
   chain-tier (c.requires) (tiers_in_lem c.args.z c.args.img.now c.args.s c.requires.fits
       (tiers-start c.args.z c.args.img.now c.args.s) (omega arith)),
 )
 
-pub returns-then-next_of-eq0 : goal.returns-then-next_of-eq0
-returns-then-next_of-eq0 c =
-    let lone = sym c.next_of.ensures ∙ c.if-next_of-eq0.true in
+pub returns-then-shared-eq0 : goal.returns-then-shared-eq0
+returns-then-shared-eq0 c =
+    let lone = sym c.shared.ensures ∙ c.if-shared-eq0.true in
     lone-says c.args.z c.args.img.now c.args.s (c.requires) lone (c.loop-t.invariant.alone c.if-apart.true)
     (summing_ends c.args.z c.args.img.now c.loop-t.invariant c.loop-t-test.false)
 

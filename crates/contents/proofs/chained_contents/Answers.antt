@@ -21,9 +21,6 @@ joined-sum-requires c =
           c.requires.chains.framed.tier_count c.loop-s.s c.chain_contents.result c.chain_contents.ensures;
     }
 
-pub loop-s-smaller : goal.loop-s-smaller
-loop-s-smaller c = omega (arith, c.loop-s-test.true)
-
 pub loop-s-preserved : goal.loop-s-preserved
 loop-s-preserved c =
     all-turns c.args.z c.args.img.now c.loop-s.invariant c.requires.chains.framed.valid.slots.1.1 c.requires.chains.framed.valid.chunks.1

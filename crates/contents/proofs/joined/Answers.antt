@@ -9,17 +9,17 @@ pub overflow_add-result : goal.overflow_add-result
 overflow_add-result c =
     omega (
       arith,
-      can-add c.args.a c.args.b c.requires.left c.requires.right c.in-Fit.entries c.in-Fit.marked c.in-Fit.is
-          c.in-Fit-b-2.n c.in-Fit-b-2.m c.in-Fit-b-2.is,
+      can-add c.args.a c.args.b c.requires.left c.requires.right c.in-Ok.entries c.in-Ok.marked c.in-Ok.is
+          c.in-Ok-b-2.n c.in-Ok-b-2.m c.in-Ok-b-2.is,
     )
 
-pub overflow_add-result-in-Fit-b-2 : goal.overflow_add-result-in-Fit-b-2
-overflow_add-result-in-Fit-b-2 c =
+pub overflow_add-result-in-Ok-b-2 : goal.overflow_add-result-in-Ok-b-2
+overflow_add-result-in-Ok-b-2 c =
     omega (
       arith,
-      can-add c.args.a c.args.b c.requires.left c.requires.right c.in-Fit.entries c.in-Fit.marked c.in-Fit.is
-          c.in-Fit-b-2.n c.in-Fit-b-2.m c.in-Fit-b-2.is,
+      can-add c.args.a c.args.b c.requires.left c.requires.right c.in-Ok.entries c.in-Ok.marked c.in-Ok.is
+          c.in-Ok-b-2.n c.in-Ok-b-2.m c.in-Ok-b-2.is,
     )
 
-pub returns-in-Fit-b-2 : goal.returns-in-Fit-b-2
-returns-in-Fit-b-2 c = sym (ap₂ joined c.in-Fit.is c.in-Fit-b-2.is)
+pub returns-in-Ok-b-2 : goal.returns-in-Ok-b-2
+returns-in-Ok-b-2 c = sym (ap₂ joined c.in-Ok.is c.in-Ok-b-2.is)

@@ -18,9 +18,9 @@ returns-in_default c =
     c.marks_agree.ensures
     c.in_default.is
 
-pub returns-then-count_of-full : goal.returns-then-count_of-full
-returns-then-count_of-full c =
-    tier-wrong c.args.z c.args.img.now c.args.s c.args.t (λ f. c.if-count_of-full.true (c.count_of.ensures ∙ f.counters.entry_count ∙ sym c.requires.full_is))
+pub returns-then-shared-full : goal.returns-then-shared-full
+returns-then-shared-full c =
+    tier-wrong c.args.z c.args.img.now c.args.s c.args.t (λ f. c.if-shared-full.true (c.shared.ensures ∙ f.counters.entry_count ∙ sym c.requires.full_is))
 
 pub returns-then-not-low_mark_fits : goal.returns-then-not-low_mark_fits
 returns-then-not-low_mark_fits c =
@@ -31,5 +31,5 @@ pub returns : goal.returns
 returns c =
     tier-right c.args.z c.args.img.now c.args.s c.args.t c.requires.tier.chains.framed.valid.chunks.1 c.requires.counted c.marks_agree.result
     c.marks_agree.ensures _
-    c.in-Same.is c.requires.full_is (sym c.count_of.ensures ∙ c.if-count_of-full.false)
+    c.in-Some.is c.requires.full_is (sym c.shared.ensures ∙ c.if-shared-full.false)
     (decided_true c.low_mark_fits.result c.low_mark_fits.ensures c.if-not-low_mark_fits.false)

@@ -11,7 +11,7 @@ search-requires c =
 pub returns-in_default : goal.returns-in_default
 returns-in_default c =
     old-absent c.args.z c.args.img.now c.requires c.args.key.now c.search.result c.search.ensures
-    c.in_default.field-0 c.in_default.field-1 c.in_default.is c.none.ensures
+    c.in_default.field-0 c.in_default.field-1 c.in_default.is
 
 pub at-requires : goal.at-requires
 at-requires c =

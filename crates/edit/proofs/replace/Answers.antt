@@ -1,33 +1,27 @@
 use mathlib.Core.Path.{◌∙◌}
 use Rattle.sound.proofs.Framing.{framed-again}
-use Rattle.edit.proofs.Replacing.{placed-is, replaced-is}
+use Rattle.edit.proofs.Replacing.{tiers_in, settled_by, placed-is, replaced-is}
 use Rattle.edit.proofs.replace.Goals as goal
-
-pub remove_old-requires : goal.remove_old-requires
-remove_old-requires c = (c.requires.framed, c.requires.old_fits)
-
-pub place_at-requires : goal.place_at-requires
-place_at-requires c = rw c.remove_old.ensures c.requires.places
 
 pub settle-requires : goal.settle-requires
 settle-requires c =
     record {
       framed = framed-again (c.place_at.auto.img ∙ c.remove_old.auto.img) c.requires.framed;
       tier_in = c.requires.places.write.tier.tier_in;
-      other_in = c.requires.old_fits.tier_in;
+      other_in = rw c.old_tier.ensures (tiers_in c.args.z _ c.requires.old_fits);
     }
 
-pub unlink_empty-requires : goal.unlink_empty-requires
-unlink_empty-requires c =
+pub old_tier_home-requires : goal.old_tier_home-requires
+old_tier_home-requires c =
     let placed =
     placed-is c.args.z c.args.img.now c.args.old c.args.t c.args.c c.args.key.now
-    c.args.value.now c.remove_old.ensures c.place_at.ensures c.settle.ensures in
+    c.args.value.now c.remove_old.ensures c.place_at.ensures (settled_by _ _ _ _ c.old_tier.ensures c.settle.ensures) in
     rw placed c.requires.leaves
 
 pub returns : goal.returns
 returns c =
     let placed =
     placed-is c.args.z c.args.img.now c.args.old c.args.t c.args.c c.args.key.now
-    c.args.value.now c.remove_old.ensures c.place_at.ensures c.settle.ensures in
+    c.args.value.now c.remove_old.ensures c.place_at.ensures (settled_by _ _ _ _ c.old_tier.ensures c.settle.ensures) in
     replaced-is c.args.z c.args.img.now c.args.old c.args.t c.args.c c.args.key.now
-    c.args.value.now placed c.unlink_empty.ensures
+    c.args.value.now placed c.old_tier_home.ensures

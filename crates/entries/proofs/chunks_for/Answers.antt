@@ -5,6 +5,7 @@ use mathlib.Core.Path.{ap, ◌∙◌}
 use Prim.Native.Nat.{ℕ, ◌+◌}
 use native.Mathlib.Omega.{arith}
 use Rattle.lists.proofs.Numbers.{ceil-one}
+use Rattle.entries.proofs.Sizes.{ceil-is}
 use Rattle.entries.proofs.chunks_for.Goals as goal
 
 pub returns-then-size-st : goal.returns-then-size-st
@@ -16,4 +17,6 @@ returns-then-size-st c =
 
 pub returns : goal.returns
 unfolding chunks_for
-returns c = ap (λ (x : ℕ). ceil (x + c.args.v) c.args.st.chunkSize) c.value_offset.ensures.0
+returns c =
+    c.div_ceil.ensures ∙ ceil-is (c.value_offset.result + c.args.v) c.args.st.chunkSize c.requires.valid.chunkSize.0
+    ∙ ap (λ (x : ℕ). ceil (x + c.args.v) c.args.st.chunkSize) c.value_offset.ensures.0

@@ -14,7 +14,7 @@ put_slot-requires c =
     }
 
 pub loop-j-preserved : goal.loop-j-preserved
-loop-j-preserved c = empty_slots-turns _ _ _ c.loop-j.invariant (omega arith) c.put_slot.ensures
+loop-j-preserved c = empty_slots-turns _ _ _ c.loop-j.invariant c.put_slot.ensures
 
 pub shape_of-img : goal.shape_of-img
 shape_of-img c = empty_slots-long _ _ _ c.loop-j.invariant

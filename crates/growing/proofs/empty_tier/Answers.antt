@@ -3,36 +3,36 @@ use native.Mathlib.Omega.{arith}
 use Rattle.growing.proofs.Loops.{framed-extra, emptied}
 use Rattle.growing.proofs.empty_tier.Goals as goal
 
-pub put_next-requires : goal.put_next-requires
-put_next-requires c = framed-extra c.empty_slots.auto.img c.requires
+pub put_shared-requires : goal.put_shared-requires
+put_shared-requires c = framed-extra c.empty_slots.auto.img c.requires
 
-pub put_previous-requires : goal.put_previous-requires
-put_previous-requires c = framed-extra (c.put_next.auto.img ∙ c.empty_slots.auto.img) c.requires
+pub put_counter-requires : goal.put_counter-requires
+put_counter-requires c = framed-extra (c.put_shared.auto.img ∙ c.empty_slots.auto.img) c.requires
 
-pub put_low-requires : goal.put_low-requires
-put_low-requires c = framed-extra (c.put_previous.auto.img ∙ c.put_next.auto.img ∙ c.empty_slots.auto.img) c.requires
+pub put_shared-requires-2 : goal.put_shared-requires-2
+put_shared-requires-2 c = framed-extra (c.put_counter.auto.img ∙ c.put_shared.auto.img ∙ c.empty_slots.auto.img) c.requires
 
-pub put_segment-requires : goal.put_segment-requires
-put_segment-requires c = framed-extra (c.put_low.auto.img ∙ c.put_previous.auto.img ∙ c.put_next.auto.img ∙ c.empty_slots.auto.img) c.requires
+pub put_counter-requires-2 : goal.put_counter-requires-2
+put_counter-requires-2 c = framed-extra (c.put_shared-2.auto.img ∙ c.put_counter.auto.img ∙ c.put_shared.auto.img ∙ c.empty_slots.auto.img) c.requires
 
-pub put_order-requires : goal.put_order-requires
-put_order-requires c =
-    framed-extra (c.put_segment.auto.img ∙ c.put_low.auto.img ∙ c.put_previous.auto.img
-    ∙ c.put_next.auto.img ∙ c.empty_slots.auto.img) c.requires
+pub put_counter-requires-3 : goal.put_counter-requires-3
+put_counter-requires-3 c =
+    framed-extra (c.put_counter-2.auto.img ∙ c.put_shared-2.auto.img ∙ c.put_counter.auto.img
+    ∙ c.put_shared.auto.img ∙ c.empty_slots.auto.img) c.requires
 
-pub put_count-requires : goal.put_count-requires
-put_count-requires c =
-    framed-extra (c.put_order.auto.img ∙ c.put_segment.auto.img ∙ c.put_low.auto.img ∙ c.put_previous.auto.img
-    ∙ c.put_next.auto.img ∙ c.empty_slots.auto.img) c.requires
+pub put_shared-requires-3 : goal.put_shared-requires-3
+put_shared-requires-3 c =
+    framed-extra (c.put_counter-3.auto.img ∙ c.put_counter-2.auto.img ∙ c.put_shared-2.auto.img ∙ c.put_counter.auto.img
+    ∙ c.put_shared.auto.img ∙ c.empty_slots.auto.img) c.requires
 
 pub put_marks-requires : goal.put_marks-requires
 put_marks-requires c =
-    let fits = framed-extra (c.put_count.auto.img ∙ c.put_order.auto.img ∙ c.put_segment.auto.img ∙ c.put_low.auto.img
-    ∙ c.put_previous.auto.img ∙ c.put_next.auto.img ∙ c.empty_slots.auto.img) c.requires in
+    let fits = framed-extra (c.put_shared-3.auto.img ∙ c.put_counter-3.auto.img ∙ c.put_counter-2.auto.img ∙ c.put_shared-2.auto.img
+    ∙ c.put_counter.auto.img ∙ c.put_shared.auto.img ∙ c.empty_slots.auto.img) c.requires in
     (record { framed = fits.0; tier = fits.1; within = omega arith }, omega arith)
 
 pub returns : goal.returns
 returns c =
     emptied c.args.z c.args.img.now c.args.t c.args.after c.requires.extra_in
-    c.empty_slots.ensures c.put_next.ensures c.put_previous.ensures c.put_low.ensures
-    c.put_segment.ensures c.put_order.ensures c.put_count.ensures c.put_marks.ensures
+    c.empty_slots.ensures c.put_shared.ensures c.put_counter.ensures c.put_shared-2.ensures
+    c.put_counter-2.ensures c.put_counter-3.ensures c.put_shared-3.ensures c.put_marks.ensures

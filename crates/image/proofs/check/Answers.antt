@@ -2,10 +2,10 @@ use mathlib.Core.Path.{ap, sym, ◌∙◌}
 use Rattle.image.specs.Check.{verdict_of, check}
 use Rattle.image.proofs.check.Goals as goal
 
-pub returns-in-Ready : goal.returns-in-Ready
+pub returns-in-Ok : goal.returns-in-Ok
 unfolding check verdict_of
-returns-in-Ready c = sym (ap verdict_of (sym c.examine.ensures ∙ c.in-Ready.is))
+returns-in-Ok c = sym (ap verdict_of (sym c.examine.ensures ∙ c.in-Ok.is))
 
-pub returns-in-Refused : goal.returns-in-Refused
+pub returns-in-Err : goal.returns-in-Err
 unfolding check verdict_of
-returns-in-Refused c = sym (ap verdict_of (sym c.examine.ensures ∙ c.in-Refused.is))
+returns-in-Err c = sym (ap verdict_of (sym c.examine.ensures ∙ c.in-Err.is))

@@ -1,6 +1,6 @@
 use mathlib.Core.Path.{◌≡◌, sym, ◌∙◌, ap, subst}
+use Rattle.std.specs.Prelude.{Some}
 use Rattle.lists.proofs.Decides.{decided_true, decided-false}
-use Rattle.layout.specs.declared.Frame.TheVariants.{Fits}
 use Rattle.layout.proofs.Frames.{frame-fits, frame-broken}
 use Rattle.layout.specs.Frame.{shape_of, FrameFits}
 use native.Mathlib.Omega.{arith}
@@ -24,7 +24,7 @@ frame_fits-requires c =
 pub returns-then-frame_fits : goal.returns-then-frame_fits
 returns-then-frame_fits c =
     let f = decided_true c.frame_fits.result c.frame_fits.ensures c.if-frame_fits.true in
-    ap Fits c.shape_of-z.ensures.0 ∙ sym (frame-fits _ c.args.img.now (subst (λ x. FrameFits x c.args.img.now) c.shape_of-z.ensures.0 f))
+    ap Some c.shape_of-z.ensures.0 ∙ sym (frame-fits _ c.args.img.now (subst (λ x. FrameFits x c.args.img.now) c.shape_of-z.ensures.0 f))
 
 pub returns-else-frame_fits : goal.returns-else-frame_fits
 returns-else-frame_fits c =

@@ -9,5 +9,5 @@ slice_bounds-examine-end g c = sym (length-take-le c.args.end c.args.input.now (
 
 pub all-requires : goal.all-requires
 all-requires g c =
-    let ready = sym c.examine.ensures ∙ c.in-Ready.is in
+    let ready = sym c.examine.ensures ∙ c.in-Ok.is in
     (ready-framed _ _ _ _ ready, ready-tiers _ _ _ _ ready)

@@ -1,4 +1,3 @@
-use Prim.Native.Nat.{◌-◌}
 use mathlib.Core.Bool.{true}
 use Rattle.lists.proofs.Upto.{Upto}
 use Rattle.once.specs.Walk.{PassSays}
@@ -6,6 +5,3 @@ use Rattle.once.proofs.keys_once.Given as goal
 
 abbrev pub invariant-loop-p : goal.invariant-loop-p
 invariant-loop-p l = Upto (λ q. PassSays l.z l.img l.by q l.s true) l.passes l.p
-
-abbrev pub decreases-loop-p : goal.decreases-loop-p
-decreases-loop-p l = l.passes - l.p

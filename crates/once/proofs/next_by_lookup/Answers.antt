@@ -1,3 +1,4 @@
+use native.Mathlib.Omega.{arith}
 use Rattle.lists.proofs.Decides.{decided_true, decided-false}
 use Rattle.once.specs.Refs.{InPass}
 use Rattle.once.proofs.Walking.{skipping_starts, skipping_turns, skipping_found, skipping_ends}
@@ -22,4 +23,5 @@ loop-j-preserved c =
     c.lookup_in_pass.ensures c.if-lookup_in_pass.false)
 
 pub returns : goal.returns
-returns c = skipping_ends c.args.z c.args.img.now c.args.by c.args.p c.args.t c.args.from c.loop-j.invariant c.loop-j-test.false
+returns c =
+    skipping_ends c.args.z c.args.img.now c.args.by c.args.p c.args.t c.args.from c.loop-j.invariant (omega arith)

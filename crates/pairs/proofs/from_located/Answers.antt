@@ -1,6 +1,6 @@
 use mathlib.Core.Path.{refl}
 use native.Mathlib.Omega.{arith}
-use Rattle.pairs.proofs.Answering.{within-found, located-refused, located-none, located_record}
+use Rattle.pairs.proofs.Answering.{within-found, located-none, located_record}
 use Rattle.pairs.proofs.from_located.Goals as goal
 
 pub overflow_add-to : goal.overflow_add-to
@@ -8,9 +8,6 @@ overflow_add-to c = omega (arith, within-found c.args.img.now c.args.located c.r
 
 pub slice_bounds-from_record-end : goal.slice_bounds-from_record-end
 slice_bounds-from_record-end c = omega (arith, within-found c.args.img.now c.args.located c.requires c.in-Found.p c.in-Found.is)
-
-pub returns-in-Refused : goal.returns-in-Refused
-returns-in-Refused c = located-refused c.args.img.now c.args.located c.args.a c.args.b c.in-Refused.stage c.in-Refused.is
 
 pub returns-in-Absent : goal.returns-in-Absent
 returns-in-Absent c = located-none c.args.img.now c.args.located c.args.a c.args.b c.in-Absent.field-0 c.in-Absent.is

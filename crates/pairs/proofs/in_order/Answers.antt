@@ -1,12 +1,9 @@
 use mathlib.Core.Path.{sym, ◌∙◌}
 use mir.Syntax.{w32}
 use mir.ValLaws.{to_z-of_z}
-use Rattle.pairs.proofs.Numbers.{held-not, less-fits, less-is, less-not}
+use Rattle.pairs.proofs.Numbers.{held-not, less-is, less-not}
 use Rattle.pairs.proofs.Orders.{sign-first, sign-last}
 use Rattle.pairs.proofs.in_order.Goals as goal
-
-pub overflow_sub-opposite : goal.overflow_sub-opposite
-overflow_sub-opposite c = less-fits c.ranges.d c.requires
 
 pub returns-then-a-b : goal.returns-then-a-b
 returns-then-a-b c = record {

@@ -1,15 +1,15 @@
-use mathlib.Core.Path.{ap, sym}
+use Rattle.std.proofs.Common.{rules}
 use Rattle.quick.specs.Quick.{from_walk}
 use Rattle.quick.proofs.from_walk.Goals as goal
 
-pub returns-in-Found : goal.returns-in-Found
+pub returns-in-Ok-Found : goal.returns-in-Ok-Found
 unfolding from_walk
-returns-in-Found c = ap from_walk (sym c.in-Found.is)
+returns-in-Ok-Found c = search rules
 
-pub returns-in-Absent : goal.returns-in-Absent
+pub returns-in-Ok-Absent : goal.returns-in-Ok-Absent
 unfolding from_walk
-returns-in-Absent c = ap from_walk (sym c.in-Absent.is)
+returns-in-Ok-Absent c = search rules
 
-pub returns-in-Broken : goal.returns-in-Broken
+pub returns-in-Err : goal.returns-in-Err
 unfolding from_walk
-returns-in-Broken c = ap from_walk (sym c.in-Broken.is)
+returns-in-Err c = search rules

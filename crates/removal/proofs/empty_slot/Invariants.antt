@@ -3,7 +3,4 @@ use Rattle.removal.proofs.Emptying.{Emptying}
 use Rattle.removal.proofs.empty_slot.Given as goal
 
 abbrev pub invariant-loop-left : goal.invariant-loop-left
-invariant-loop-left l = Emptying l.z l.t l.j l.initial.img l.img l.cursor.slot l.hole l.left × (l.cursor.slots ≡ l.z.settings.slots)
-
-abbrev pub decreases-loop-left : goal.decreases-loop-left
-decreases-loop-left l = l.left
+invariant-loop-left l = Emptying l.z l.t l.j l.initial.img l.img l.cursor.slot l.hole l._left × (l.cursor.slots ≡ l.z.settings.slots)

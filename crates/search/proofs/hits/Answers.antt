@@ -17,11 +17,11 @@ returns-in_default c =
 pub same_key-requires-2 : goal.same_key-requires-2
 same_key-requires-2 c =
     key_in_image c.args.z c.args.img.now c.args.t _
-    (whole-sound c.args.z c.args.img.now c.args.t _ _ (sym c.stored.ensures ∙ c.in-Whole.is))
+    (whole-sound c.args.z c.args.img.now c.args.t _ _ (sym c.stored.ensures ∙ c.in-Some.is))
     c.requires.tier.framed c.requires.tier.tier_in
 
 pub returns : goal.returns
 returns c =
     c.same_key-2.ensures ∙ hits-whole c.args.z c.args.img.now c.args.key.now c.args.t c.args.v
     c.args.lookup c.slot_chunk.result c.requires.lookup_is (sym c.slot_key.ensures ∙ c.if-slot_key-lookup.false) c.slot_chunk.ensures _
-    (sym c.stored.ensures ∙ c.in-Whole.is)
+    (sym c.stored.ensures ∙ c.in-Some.is)

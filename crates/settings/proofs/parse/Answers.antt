@@ -1,5 +1,5 @@
+use Rattle.std.specs.Prelude.{Ok}
 use Rattle.settings.specs.Rules.{Valid}
-use Rattle.settings.specs.declared.Parsed.TheVariants.{Accepted}
 use mathlib.Core.Path.{sym, ◌∙◌, ap, subst}
 use Rattle.lists.proofs.Decides.{decided_true, decided-false}
 use Rattle.settings.proofs.Versions.{block-least}
@@ -16,7 +16,7 @@ pub returns-then-valid : goal.returns-then-valid
 returns-then-valid c =
     let f = decided_true c.block_fits.result c.block_fits.ensures c.if-not-block_fits.false in
     let v = decided_true c.valid.result c.valid.ensures c.if-valid.true in
-    ap Accepted c.settings_of-st.ensures ∙ sym (parse-accepts _ f (subst Valid c.settings_of-st.ensures v))
+    ap Ok c.settings_of-st.ensures ∙ sym (parse-accepts _ f (subst Valid c.settings_of-st.ensures v))
 
 pub returns-else-valid : goal.returns-else-valid
 returns-else-valid c =

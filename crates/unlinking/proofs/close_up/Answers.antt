@@ -8,8 +8,8 @@ use Rattle.unlinking.proofs.close_up.Goals as goal
 pub returns-then-first-eq0 : goal.returns-then-first-eq0
 returns-then-first-eq0 c = closed_none c.args.z c.args.img.now c.args.first c.args.p c.if-first-eq0.true c.lower_orders.ensures
 
-pub put_previous-requires : goal.put_previous-requires
-put_previous-requires c = (
+pub put_counter-requires : goal.put_counter-requires
+put_counter-requires c = (
   framed-again (ap length c.lower_orders.ensures ∙ length-puts c.args.z c.args.img.now _) c.requires.framed,
   first-tier c.args.z c.args.img.now c.args.first c.args.p c.requires c.if-first-eq0.false,
 )
@@ -17,4 +17,4 @@ put_previous-requires c = (
 pub returns : goal.returns
 returns c =
     closed_some c.args.z c.args.img.now c.args.first c.args.p c.requires c.if-first-eq0.false c.lower_orders.ensures
-    c.put_previous.ensures
+    c.put_counter.ensures

@@ -9,14 +9,14 @@ use Rattle.unlinking.proofs.unlink_empty.Goals as goal
 pub returns-then-t-z : goal.returns-then-t-z
 returns-then-t-z c = sym (main-stays c.args.z c.args.img.now c.args.t (omega (arith, c.if-t-z.true)))
 
-pub count_of-requires : goal.count_of-requires
-count_of-requires c = count-asks c.args.z c.args.img.now c.args.t (omega (arith, c.if-t-z.false)) c.requires
+pub shared-requires : goal.shared-requires
+shared-requires c = count-asks c.args.z c.args.img.now c.args.t (omega (arith, c.if-t-z.false)) c.requires
 
-pub returns-then-count_of-ne0 : goal.returns-then-count_of-ne0
-returns-then-count_of-ne0 c =
+pub returns-then-shared-ne0 : goal.returns-then-shared-ne0
+returns-then-shared-ne0 c =
     let extra : c.args.z.settings.segments < c.args.t = omega (arith, c.if-t-z.false) in
     sym (full-stays c.args.z c.args.img.now c.args.t extra
-    (λ e. c.if-count_of-ne0.true (c.count_of.ensures ∙ count-is c.args.z c.args.img.now c.args.t extra c.requires ∙ e)))
+    (λ e. c.if-shared-ne0.true (c.shared.ensures ∙ count-is c.args.z c.args.img.now c.args.t extra c.requires ∙ e)))
 
 pub unlink-requires : goal.unlink-requires
 unlink-requires c = unlink-asks c.args.z c.args.img.now c.args.t (omega (arith, c.if-t-z.false)) c.requires
@@ -25,5 +25,5 @@ pub returns : goal.returns
 returns c =
     let extra : c.args.z.settings.segments < c.args.t = omega (arith, c.if-t-z.false) in
     let none : length (full_slots c.args.z c.args.img.now c.args.t) ≡ 0 = sym (count-is c.args.z c.args.img.now c.args.t extra c.requires) ∙ sym
-    c.count_of.ensures ∙ c.if-count_of-ne0.false in
+    c.shared.ensures ∙ c.if-shared-ne0.false in
     c.unlink.ensures ∙ sym (empty-goes c.args.z c.args.img.now c.args.t extra none)

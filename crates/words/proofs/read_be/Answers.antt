@@ -12,7 +12,7 @@ pub overflow_add-sum : goal.overflow_add-sum
 overflow_add-sum c = omega (arith, seven-bytes-lt c.loop-k.invariant.fits (omega arith))
 
 pub loop-k-preserved : goal.loop-k-preserved
-loop-k-preserved c = be-turns c.loop-k.invariant c.wide.result (omega arith) c.wide.ensures.0 (omega arith)
+loop-k-preserved c = be-turns c.loop-k.invariant c.from.result (omega arith) (omega arith) (omega arith)
 
 pub returns : goal.returns
 returns c = be-ends c.loop-k.invariant (omega arith)

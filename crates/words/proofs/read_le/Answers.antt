@@ -1,18 +1,8 @@
-use Rattle.words.proofs.Numbers.{le-starts, le-turns, le-ends, seven-bytes-lt}
-use native.Mathlib.Omega.{arith}
+use Rattle.words.proofs.Numbers.{le-padded}
 use Rattle.words.proofs.read_le.Goals as goal
 
-pub loop-k-init : goal.loop-k-init
-loop-k-init c = le-starts _ _ _
-
-pub overflow_mul-sum : goal.overflow_mul-sum
-overflow_mul-sum c = omega (arith, seven-bytes-lt c.loop-k.invariant.fits (omega arith))
-
-pub overflow_add-sum : goal.overflow_add-sum
-overflow_add-sum c = omega (arith, seven-bytes-lt c.loop-k.invariant.fits (omega arith))
-
-pub loop-k-preserved : goal.loop-k-preserved
-loop-k-preserved c = le-turns c.loop-k.invariant c.wide.result (omega arith) c.wide.ensures.0 (omega arith)
+pub returns-then-n-eq4 : goal.returns-then-n-eq4
+returns-then-n-eq4 c = rw c.if-n-eq4.true c.read_le4.ensures
 
 pub returns : goal.returns
-returns c = le-ends c.loop-k.invariant (omega arith)
+returns c = le-padded c.args.s.now _ c.args.at c.args.n (λ i. (c.type_inv.s i).fits) c.requires c.copy_from_slice.ensures.after c.from_le_bytes.ensures

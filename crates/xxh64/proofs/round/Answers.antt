@@ -3,4 +3,4 @@ use Rattle.xxh64.proofs.round.Goals as goal
 
 pub returns : goal.returns
 unfolding round_of
-returns c = rw (c.mul-2.ensures, c.rotl.ensures, c.wrapping_add_u64.ensures.value, c.mul.ensures)
+returns c = rw (c.mul-2.ensures, c.rotl.ensures, c.mul.ensures)

@@ -1,12 +1,5 @@
-use Rattle.settings.proofs.Powers.{leading_zeros_power}
-use native.Mathlib.Omega.{arith}
+use Rattle.entries.proofs.Powers.{log-power}
 use Rattle.entries.proofs.keys.log2.Goals as goal
 
-pub overflow_cast-result : goal.overflow_cast-result
-overflow_cast-result c = omega (arith, (leading_zeros_power c.args.x c.requires).0)
-
-pub overflow_sub-result : goal.overflow_sub-result
-overflow_sub-result c = omega (arith, (leading_zeros_power c.args.x c.requires).0)
-
 pub returns : goal.returns
-returns c = ((leading_zeros_power c.args.x c.requires).1, omega arith)
+returns c = (log-power c.args.x c.ilog2.result c.requires c.ilog2.ensures.power_le c.ilog2.ensures.next_power_gt, c.ilog2.ensures.bound)

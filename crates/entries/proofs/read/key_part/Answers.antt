@@ -1,9 +1,10 @@
 use Prim.Native.Nat.{◌<◌}
-use mathlib.Core.Path.{sym, ◌∙◌}
+use Rattle.std.specs.Prelude.{IsSome}
+use mathlib.Core.Path.{refl, sym, ◌∙◌, subst}
 use native.Mathlib.Omega.{arith}
 use lib.Seq.{length-take-le}
 use Rattle.layout.proofs.Chunks.{chunks-inside}
-use Rattle.entries.proofs.Whole.{decode-up_to_chunks, whole-sound, whole_chunk, key-not-refused, key-part}
+use Rattle.entries.proofs.Whole.{decode-up_to_chunks, whole-sound, whole_chunk, key-read, key-part}
 use borrow.Author.Rules.{rules}
 use Rattle.entries.proofs.read.key_part.Goals as goal
 
@@ -18,14 +19,13 @@ chunk_at-requires c =
     let inside : c.args.c < c.args.z.settings.chunks = whole_chunk c.args.z c.args.img.now c.args.t c.args.c sound in
     search rules
 
-pub returns-in_default : goal.returns-in_default
-returns-in_default c =
-    absurd
-    (key-not-refused c.args.z c.args.img.now c.args.t c.args.c c.requires.entry c.requires.whole
-    (decode-up_to_chunks c.args.z c.args.img.now c.args.t c.chunk_at-end.ensures c.chunk_at.ensures ∙ sym c.read.ensures ∙
-    c.in_default.is))
+pub unwrap-k-requires : goal.unwrap-k-requires
+unwrap-k-requires c =
+    subst IsSome
+    (sym (c.read.ensures ∙ sym (decode-up_to_chunks c.args.z c.args.img.now c.args.t c.chunk_at-end.ensures c.chunk_at.ensures)
+    ∙ key-read c.args.z c.args.img.now c.args.t c.args.c c.requires.entry c.requires.whole)) refl
 
 pub returns : goal.returns
 returns c =
     key-part c.args.z c.args.img.now c.args.t c.args.c c.requires.entry c.requires.whole
-    (decode-up_to_chunks c.args.z c.args.img.now c.args.t c.chunk_at-end.ensures c.chunk_at.ensures ∙ sym c.read.ensures ∙ c.in-Number.is)
+    (decode-up_to_chunks c.args.z c.args.img.now c.args.t c.chunk_at-end.ensures c.chunk_at.ensures ∙ sym c.read.ensures ∙ c.unwrap-k.ensures)

@@ -3,9 +3,6 @@ use native.Mathlib.Omega.{arith}
 use Rattle.entries.proofs.Matching.{eights_turn, eights_differ}
 use Rattle.entries.proofs.read.same_eights.Goals as goal
 
-pub loop-k-init : goal.loop-k-init
-loop-k-init c = (omega arith, λ j h. absurd (omega arith))
-
 pub returns-then-read_le8 : goal.returns-then-read_le8
 returns-then-read_le8 c =
     eights_differ c.args.img.now c.args.at c.args.key.now c.loop-k.k c.args.n c.loop-k-test.true
@@ -17,6 +14,3 @@ loop-k-preserved c = (
   eights_turn c.args.img.now c.args.at c.args.key.now c.loop-k.k (λ i. omega (arith, c.type_inv.img i))
       (λ i. omega (arith, c.type_inv.key i)) c.loop-k.invariant.1 (sym c.read_le8.ensures ∙ c.if-read_le8.false ∙ c.read_le8-in-loop-k.ensures),
 )
-
-pub returns : goal.returns
-returns c = λ j h. c.loop-k.invariant.1 j (omega arith)

@@ -13,11 +13,11 @@ slice_bounds-bytes-end c =
     sym (length-take-le c.chunk_at-end.result c.args.img.now
     (omega (arith, c.chunk_at-end.ensures, chunks-inside c.requires.framed c.args.t c.requires.tier_in, c.requires.framed.within)))
 
-pub returns-in_default : goal.returns-in_default
-returns-in_default c =
-    sym (stored-key-refused c.args.z c.args.img.now c.args.t c.args.c
+pub returns-in_err-k : goal.returns-in_err-k
+returns-in_err-k c =
+    c.from_residual.ensures ∙ sym (stored-key-refused c.args.z c.args.img.now c.args.t c.args.c
     (decode-up_to_chunks c.args.z c.args.img.now c.args.t c.chunk_at-end.ensures c.chunk_at.ensures ∙ sym
-    c.read.ensures ∙ c.in_default.is))
+    c.read.ensures ∙ c.in_err-k.was))
 
 pub overflow_add-at : goal.overflow_add-at
 overflow_add-at c =
@@ -25,20 +25,20 @@ overflow_add-at c =
       arith,
       key-end-small c.args.z c.args.img.now c.args.t c.args.c c.requires.framed c.requires.tier_in
           (decode-up_to_chunks c.args.z c.args.img.now c.args.t c.chunk_at-end.ensures c.chunk_at.ensures ∙ sym c.read.ensures
-          ∙ c.in-Number.is),
+          ∙ c.in_ok-k.was),
     )
 
-pub returns-in_default-read : goal.returns-in_default-read
-returns-in_default-read c =
-    sym (stored-value-refused c.args.z c.args.img.now c.args.t c.args.c
+pub returns-in_err-v : goal.returns-in_err-v
+returns-in_err-v c =
+    c.from_residual-in_err-v.ensures ∙ sym (stored-value-refused c.args.z c.args.img.now c.args.t c.args.c
     (decode-up_to_chunks c.args.z c.args.img.now c.args.t c.chunk_at-end.ensures c.chunk_at.ensures
-    ∙ sym c.read.ensures ∙ c.in-Number.is)
+    ∙ sym c.read.ensures ∙ c.in_ok-k.was)
     (decode-up_to_chunks c.args.z c.args.img.now c.args.t c.chunk_at-end.ensures refl
-    ∙ sym c.read-2.ensures ∙ c.in_default-read.is))
+    ∙ sym c.read-2.ensures ∙ c.in_err-v.was))
 
 pub returns : goal.returns
 returns c =
     sym (stored-both-read c.args.z c.args.img.now c.args.t c.args.c
     (decode-up_to_chunks c.args.z c.args.img.now c.args.t c.chunk_at-end.ensures c.chunk_at.ensures
-    ∙ sym c.read.ensures ∙ c.in-Number.is)
-    (decode-up_to_chunks c.args.z c.args.img.now c.args.t c.chunk_at-end.ensures refl ∙ sym c.read-2.ensures ∙ c.in-Number-read.is))
+    ∙ sym c.read.ensures ∙ c.in_ok-k.was)
+    (decode-up_to_chunks c.args.z c.args.img.now c.args.t c.chunk_at-end.ensures refl ∙ sym c.read-2.ensures ∙ c.in_ok-v.was))

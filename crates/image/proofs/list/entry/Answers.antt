@@ -1,28 +1,27 @@
+use Rattle.std.proofs.lemmas.Result.{err_from_is_err_and}
 use mathlib.Core.Path.{ap, sym, ◌∙◌}
+use Rattle.std.specs.Prelude.{Ok}
 use Rattle.image.specs.List.{from_nth, from_examined, entry}
+use Rattle.image.proofs.Picking.{from_nth-ok}
 use Rattle.image.proofs.Ready.{ready-framed, ready-tiers}
 use Rattle.image.proofs.list.entry.Goals as goal
 
 pub nth-requires : goal.nth-requires
 nth-requires c = (
-  ready-framed c.args.block.now c.args.img.now c.in-Ready.z c.in-Ready.field-1
-      (sym c.examine.ensures ∙ c.in-Ready.is),
-  ready-tiers c.args.block.now c.args.img.now c.in-Ready.z
-      c.in-Ready.field-1 (sym c.examine.ensures ∙ c.in-Ready.is),
+  ready-framed c.args.block.now c.args.img.now c.in_ok-z.z _
+      (sym c.examine.ensures ∙ c.in_ok-z.was),
+  ready-tiers c.args.block.now c.args.img.now c.in_ok-z.z
+      _ (sym c.examine.ensures ∙ c.in_ok-z.was),
 )
 
-pub returns-in-Refused : goal.returns-in-Refused
-unfolding entry from_examined from_nth
-returns-in-Refused c = sym (ap (from_examined c.args.img.now c.args.n) (sym c.examine.ensures ∙ c.in-Refused.is))
+pub returns-in_err-z : goal.returns-in_err-z
+unfolding entry from_examined
+returns-in_err-z c =
+    let refused = err_from_is_err_and c.from_residual.result c.from_residual.ensures.1 in
+    rw (refused.1, refused.2) (sym (ap (from_examined c.args.img.now c.args.n) (sym c.examine.ensures ∙ c.in_err-z.was)))
 
-pub returns-in-At : goal.returns-in-At
-unfolding entry from_examined from_nth
-returns-in-At c =
-    sym (ap (from_examined c.args.img.now c.args.n) (sym c.examine.ensures ∙ c.in-Ready.is) ∙ ap from_nth
-    (sym c.nth.ensures ∙ c.in-At.is))
-
-pub returns-in-After : goal.returns-in-After
-unfolding entry from_examined from_nth
-returns-in-After c =
-    sym (ap (from_examined c.args.img.now c.args.n) (sym c.examine.ensures ∙ c.in-Ready.is) ∙ ap from_nth
-    (sym c.nth.ensures ∙ c.in-After.is))
+pub returns : goal.returns
+unfolding entry from_examined
+returns c =
+    ap Ok c.ok.ensures.value ∙ from_nth-ok c.nth.result ∙ ap from_nth c.nth.ensures
+    ∙ sym (ap (from_examined c.args.img.now c.args.n) (sym c.examine.ensures ∙ c.in_ok-z.was))

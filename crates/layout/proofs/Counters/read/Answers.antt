@@ -1,5 +1,6 @@
 use mathlib.Core.Path.{◌∙◌}
-use Rattle.layout.specs.Places.{previous, segment, order, counters_of}
+use Rattle.layout.specs.declared.Counter.TheVariants.{Previous as previous, Segment as segment, Order as order}
+use Rattle.layout.specs.Places.{counters_of}
 use Rattle.layout.proofs.PlaceBytes.{le-place, counter-bytes}
 use native.Mathlib.Omega.{arith}
 use Rattle.layout.proofs.Counters.read.Goals as goal

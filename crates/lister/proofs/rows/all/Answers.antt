@@ -16,8 +16,8 @@ step-requires g c = record { chains = record { framed = c.requires.0; chain_tier
 
 pub loop-e-smaller : goal.loop-e-smaller
 loop-e-smaller g c =
-    let at = step-at c.args.z c.args.img.now c.step.ensures c.in-At.is in
+    let at = step-at c.args.z c.args.img.now c.step.ensures c.in-Some.is in
     omega (arith, ap length at.1)
 
 pub loop-e-preserved : goal.loop-e-preserved
-loop-e-preserved g c = (step-at c.args.z c.args.img.now c.step.ensures c.in-At.is).0
+loop-e-preserved g c = (step-at c.args.z c.args.img.now c.step.ensures c.in-Some.is).0

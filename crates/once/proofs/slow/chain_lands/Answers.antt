@@ -23,22 +23,22 @@ returns-then-not-tier_lands c =
     (decided-false {P = PassLands c.args.z c.args.img.now c.args.by c.args.p c.loop-t.t} c.tier_lands.result c.tier_lands.ensures
     c.if-not-tier_lands.true)
 
-pub next_of-t-requires : goal.next_of-t-requires
-next_of-t-requires c = (
+pub shared-t-requires : goal.shared-t-requires
+shared-t-requires c = (
   c.requires.reads.fitting.chains.framed,
   chain-tier c.requires.reads.fitting (hold_in c.args.z c.args.img.now c.args.s
       (PassLands c.args.z c.args.img.now c.args.by c.args.p) c.requires.reads.fitting.fits c.loop-t.invariant c.loop-t-test.true),
 )
 
 pub loop-t-smaller : goal.loop-t-smaller
-loop-t-smaller c = tiers-less c.args.z c.args.img.now c.args.s c.requires.reads.fitting.fits c.loop-t.invariant.along c.loop-t-test.true c.next_of-t.ensures
+loop-t-smaller c = tiers-less c.args.z c.args.img.now c.args.s c.requires.reads.fitting.fits c.loop-t.invariant.along c.loop-t-test.true c.shared-t.ensures
 
 pub loop-t-preserved : goal.loop-t-preserved
 loop-t-preserved c =
     hold-turns c.args.z c.args.img.now c.args.s (PassLands c.args.z c.args.img.now c.args.by c.args.p) c.requires.reads.fitting.fits
     c.loop-t.invariant c.loop-t-test.true
     (decided_true {P = PassLands c.args.z c.args.img.now c.args.by c.args.p c.loop-t.t} c.tier_lands.result c.tier_lands.ensures
-    c.if-not-tier_lands.false) c.next_of-t.ensures
+    c.if-not-tier_lands.false) c.shared-t.ensures
 
 pub returns : goal.returns
 returns c =

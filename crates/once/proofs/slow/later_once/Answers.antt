@@ -10,8 +10,8 @@ use Rattle.once.proofs.Passes.{LaterLands, first-lands, later-once, later-twice}
 use Rattle.once.proofs.slow.later_once.Invariants.{all}
 use Rattle.once.proofs.slow.later_once.Goals as goal
 
-pub next_of-t-requires : goal.next_of-t-requires
-next_of-t-requires c = (
+pub shared-t-requires : goal.shared-t-requires
+shared-t-requires c = (
   c.requires.reads.fitting.chains.framed,
   chain-tier c.requires.reads.fitting (tiers_in_lem c.args.z c.args.img.now c.args.s c.requires.reads.fitting.fits
       (tiers-start c.args.z c.args.img.now c.args.s) (omega arith)),
@@ -21,7 +21,7 @@ pub loop-t-init : goal.loop-t-init
 loop-t-init c =
     let P = LaterLands c.args.z c.args.img.now c.args.s all in
     hold-turns c.args.z c.args.img.now c.args.s P c.requires.reads.fitting.fits (hold-starts c.args.z c.args.img.now c.args.s P)
-    (omega arith) (first-lands c.args.z c.args.img.now c.args.s all) c.next_of-t.ensures
+    (omega arith) (first-lands c.args.z c.args.img.now c.args.s all) c.shared-t.ensures
 
 pub tier_lands-requires : goal.tier_lands-requires
 tier_lands-requires c =
@@ -39,8 +39,8 @@ returns-then-not-tier_lands c =
     (decided-false {P = PassLands c.args.z c.args.img.now all 0 c.loop-t.t} c.tier_lands.result c.tier_lands.ensures
     c.if-not-tier_lands.true)
 
-pub next_of-t-requires-in-loop-t : goal.next_of-t-requires-in-loop-t
-next_of-t-requires-in-loop-t c = (
+pub shared-t-requires-in-loop-t : goal.shared-t-requires-in-loop-t
+shared-t-requires-in-loop-t c = (
   c.requires.reads.fitting.chains.framed,
   chain-tier c.requires.reads.fitting (hold_in c.args.z c.args.img.now c.args.s _ c.requires.reads.fitting.fits c.loop-t.invariant
       c.loop-t-test.true),
@@ -48,13 +48,13 @@ next_of-t-requires-in-loop-t c = (
 
 pub loop-t-smaller : goal.loop-t-smaller
 loop-t-smaller c =
-    tiers-less c.args.z c.args.img.now c.args.s c.requires.reads.fitting.fits c.loop-t.invariant.along c.loop-t-test.true c.next_of-t-in-loop-t.ensures
+    tiers-less c.args.z c.args.img.now c.args.s c.requires.reads.fitting.fits c.loop-t.invariant.along c.loop-t-test.true c.shared-t-in-loop-t.ensures
 
 pub loop-t-preserved : goal.loop-t-preserved
 loop-t-preserved c =
     hold-turns c.args.z c.args.img.now c.args.s _ c.requires.reads.fitting.fits c.loop-t.invariant c.loop-t-test.true
     (λ _. decided_true {P = PassLands c.args.z c.args.img.now all 0 c.loop-t.t} c.tier_lands.result c.tier_lands.ensures
-    c.if-not-tier_lands.false) c.next_of-t-in-loop-t.ensures
+    c.if-not-tier_lands.false) c.shared-t-in-loop-t.ensures
 
 pub returns : goal.returns
 returns c =

@@ -1,4 +1,4 @@
-use Prim.Native.Nat.{ℕ}
+use Prim.Native.Nat.{ℕ, ◌-◌}
 use mathlib.Core.List.{List}
 use mathlib.Core.Path.{◌≡◌}
 use lib.ListN.{length}
@@ -14,9 +14,6 @@ abbrev pub From : Shape → List ℕ → List ℕ → Place → ℕ → ℕ → 
 From z img table a from i left =
     (by : Sharing) → Seeking (ref_table z img by (length table)) (meant z img a) table from i left
 
-abbrev pub invariant-loop-left : goal.invariant-loop-left
-invariant-loop-left l = From l.z l.img l.table (l.t, l.j) l.initial.cursor.slot l.cursor.slot l.left ×
+abbrev pub invariant-loop : goal.invariant-loop
+invariant-loop l = From l.z l.img l.table (l.t, l.j) l.initial.cursor.slot l.cursor.slot (length l.table - l.counter) ×
     (l.cursor.slots ≡ length l.table)
-
-abbrev pub decreases-loop-left : goal.decreases-loop-left
-decreases-loop-left l = l.left

@@ -1,9 +1,6 @@
 use Rattle.placement.proofs.Written.{new-empty, new-holds}
 use Rattle.placement.proofs.place.slot_for.Goals as goal
 
-pub returns-in-Known : goal.returns-in-Known
-returns-in-Known c = c.requires.slot_is c.in-Known.j c.in-Known.is
-
 pub returns-in-Empty : goal.returns-in-Empty
 returns-in-Empty c =
     new-empty c.args.z c.args.img.now c.args.key.now c.args.lookup c.args.t c.requires

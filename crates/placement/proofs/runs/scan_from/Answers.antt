@@ -1,12 +1,18 @@
 use native.Mathlib.Omega.{arith}
 use Rattle.placement.proofs.OldEntry.{scan-old, scan_else}
 use Rattle.placement.proofs.runs.scan_from.Goals as goal
+use Rattle.placement.proofs.runs.scan_from.Goals.{else-t-o-via-then-t-o+else-o-low, else-t-o-via-else-t-o}
 
-pub returns-then-old-low : goal.returns-then-old-low
-returns-then-old-low c = scan-old _ _ _ _ c.requires.1 (omega (arith, c.low_of-low.ensures, c.if-old-low.true)) (omega arith)
+pub returns-then-o-low : goal.returns-then-o-low
+returns-then-o-low c = rw c.in-Some.is (scan-old _ _ _ c.requires.1 (omega (arith, c.shared-low.ensures, c.if-o-low.true)) _ (omega arith))
 
-pub returns-else-old-low : goal.returns-else-old-low
-returns-else-old-low c = scan-old _ _ _ _ c.requires.1 (omega (arith, c.low_of-low.ensures)) (omega (arith, c.if-old-low.false))
+pub returns-else-t-o : goal.returns-else-t-o
+returns-else-t-o c =
+    rw c.in-Some.is
+    (elim c.else-t-o.branch [
+      | else-t-o-via-then-t-o+else-o-low w ↦ scan-old _ _ _ c.requires.1 (omega (arith, c.shared-low.ensures)) _ w.if-o-low.false
+      | else-t-o-via-else-t-o w ↦ scan_else _ _ _ c.requires.1 (omega (arith, c.shared-low.ensures)) _ w.if-t-o.false
+    ])
 
-pub returns-else-t-old : goal.returns-else-t-old
-returns-else-t-old c = scan_else _ _ _ _ c.requires.1 (omega (arith, c.low_of-low.ensures)) c.if-t-old.false
+pub returns-in_default : goal.returns-in_default
+returns-in_default c = rw c.in_default.is (scan_else _ _ _ c.requires.1 (omega (arith, c.shared-low.ensures)) _ tt)

@@ -1,4 +1,3 @@
-use native.Mathlib.Omega.{arith}
 use mathlib.Core.Path.{refl, sym, ◌∙◌}
 use Rattle.layout.proofs.Bounds.{framed-bounded}
 use Rattle.placement.proofs.Written.{segment-made, lookup-made}
@@ -11,15 +10,14 @@ tier_count-most-requires c = framed-bounded c.requires.framed
 pub loop-k-init : goal.loop-k-init
 loop-k-init c =
     walking_starts c.args.z c.args.img.now c.args.key.now c.args.n c.tier_count-most.ensures
-    (segment-made c.args.z.settings c.args.key.now c.xxh64-h.ensures c.segment_of_hash-t.ensures.0) refl refl
+    (segment-made c.args.z.settings c.args.key.now c.xxh64-h.ensures c.segment_of_hash-t.ensures.0) refl
 
 pub returns-then-t-eq0 : goal.returns-then-t-eq0
 returns-then-t-eq0 c =
-    walking_ends _ _ _ _ c.loop-k.invariant c.requires.tiers_of
-    c.if-t-eq0.true c.none.ensures
+    walking_ends _ _ _ _ c.loop-k.invariant c.if-t-eq0.true
 
-pub seek-sought-requires : goal.seek-sought-requires
-seek-sought-requires c =
+pub seek-requires : goal.seek-requires
+seek-requires c =
     record {
       tier = record {
         framed = c.requires.framed;
@@ -37,13 +35,13 @@ at-requires c =
       };
       slot_in =
           walking_slot _ _ _ _ c.loop-k.invariant c.loop-k-test.true
-          c.if-t-eq0.false (sym c.seek-sought.ensures ∙ c.in-Holds.is) c.requires.framed;
+          c.if-t-eq0.false (sym c.seek.ensures ∙ c.in-Holds.is) c.requires.framed;
     }
 
 pub returns-in-Holds : goal.returns-in-Holds
 returns-in-Holds c =
     walking_found _ _ _ _ c.loop-k.invariant c.loop-k-test.true
-    c.if-t-eq0.false (sym c.seek-sought.ensures ∙ c.in-Holds.is) c.at.ensures
+    c.if-t-eq0.false (sym c.seek.ensures ∙ c.in-Holds.is) c.at.ensures
 
 pub or_tier-candidate-requires : goal.or_tier-candidate-requires
 or_tier-candidate-requires c =
@@ -52,18 +50,17 @@ or_tier-candidate-requires c =
       tier = record { framed = c.requires.framed; tier_in = c.requires.tiers_of _ here };
       low_mark = c.requires.low_marks _ here;
       some = c.requires.some;
-      old_ends = omega arith;
+      old_ends = tt;
     }
 
-pub next_of-t-requires : goal.next_of-t-requires
-next_of-t-requires c = (c.requires.framed, c.requires.tiers_of _ (walking_in _ _ _ _ c.loop-k.invariant c.loop-k-test.true c.if-t-eq0.false))
+pub shared-t-requires : goal.shared-t-requires
+shared-t-requires c = (c.requires.framed, c.requires.tiers_of _ (walking_in _ _ _ _ c.loop-k.invariant c.loop-k-test.true c.if-t-eq0.false))
 
 pub loop-k-preserved : goal.loop-k-preserved
 loop-k-preserved c =
     walking_turns _ _ _ _ c.loop-k.invariant c.loop-k-test.true
-    c.if-t-eq0.false (sym c.seek-sought.ensures ∙ c.in-Empty.is) c.or_tier-candidate.ensures c.next_of-t.ensures
+    c.if-t-eq0.false (sym c.seek.ensures ∙ c.in-Empty.is) c.or_tier-candidate.ensures c.shared-t.ensures
 
 pub returns : goal.returns
 returns c =
-    walking_out _ _ _ _ c.loop-k.invariant c.requires.tiers_of
-    c.loop-k-test.false c.none-2.ensures
+    walking_out _ _ _ _ c.loop-k.invariant c.loop-k-test.false

@@ -6,7 +6,7 @@ use Rattle.probe.specs.Ring.{next}
 use Rattle.search.specs.Search.{hits}
 use Rattle.search.specs.Rules.{keyAt}
 use Rattle.search.proofs.Seeking.{hits-differs}
-use Rattle.search.proofs.Ending.{coming-starts, coming-lt, coming-empty, coming-hit, coming-nearer, coming-turns, coming-found}
+use Rattle.search.proofs.Ending.{coming-starts, coming-empty, coming-hit, coming-nearer, coming-turns, coming-found}
 use Rattle.search.proofs.rules.ends_at.Goals as goal
 use Rattle.search.proofs.rules.ends_at.Goals.{then-slot_key-lookup+else-same_hit, else-slot_key-lookup}
 
@@ -17,15 +17,6 @@ loop-cursor-init c = (
   refl,
 )
 
-pub slot-v-requires : goal.slot-v-requires
-slot-v-requires c =
-    record {
-      tier = c.requires.slot.tier;
-      slot_in =
-          coming-lt c.args.z c.args.img.now c.args.t c.args.j c.requires.slot.slot_in
-          c.loop-cursor.invariant.0;
-    }
-
 pub returns-then-v-eq0 : goal.returns-then-v-eq0
 returns-then-v-eq0 c =
     coming-empty c.args.z c.args.img.now c.args.t c.args.j c.requires.slot.slot_in c.loop-cursor.invariant.0
@@ -35,14 +26,6 @@ pub returns-then-same_hit : goal.returns-then-same_hit
 returns-then-same_hit c =
     coming-hit c.args.z c.args.img.now c.args.t c.args.j c.requires.slot.slot_in c.loop-cursor.invariant.0 c.loop-cursor-test.true
     c.slot-v.result c.slot-v.ensures (sym c.same_hit.ensures ∙ c.if-same_hit.true)
-
-pub step-cursor-requires : goal.step-cursor-requires
-step-cursor-requires c =
-    omega (
-      arith,
-      coming-lt c.args.z c.args.img.now c.args.t c.args.j c.requires.slot.slot_in c.loop-cursor.invariant.0,
-      c.loop-cursor.invariant.1,
-    )
 
 pub loop-cursor-smaller : goal.loop-cursor-smaller
 loop-cursor-smaller c =

@@ -6,17 +6,7 @@ use Rattle.lists.proofs.Decides.{decided_true, decided-false}
 use Rattle.entries.specs.Keys.{segment_of, lookup_key, slot_key}
 use mathlib.Core.Path.{◌≡◌, sym, ap, ◌∙◌}
 use native.Mathlib.Omega.{arith}
-use borrow.Author.Rules.{rules}
 use Rattle.search.proofs.rules.lands.Goals as goal
-
-pub ends_at-requires : goal.ends_at-requires
-ends_at-requires c =
-    record {
-      slot = search rules;
-      fits = c.requires.fits;
-      lookup_is = c.slot_key-lookup.ensures ∙ ap (slot_key c.args.z.settings) c.slot.ensures
-          ∙ sym c.requires.fits.hashed.lookup_agrees;
-    }
 
 pub returns-then-not-ends_at : goal.returns-then-not-ends_at
 returns-then-not-ends_at c =

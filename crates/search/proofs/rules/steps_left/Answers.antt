@@ -8,7 +8,7 @@ use Rattle.entries.proofs.Hashes.{start-lt}
 use Rattle.search.specs.Search.{hits}
 use Rattle.search.specs.Rules.{keyAt}
 use Rattle.search.proofs.Seeking.{hits-differs}
-use Rattle.search.proofs.Reaching.{walking_starts, walking_ends, walking_nearer, walking_turns}
+use Rattle.search.proofs.Reaching.{walking_starts, walking_nearer, walking_turns}
 use Rattle.search.proofs.rules.steps_left.Goals as goal
 use Rattle.std.proofs.lemmas.Grind.{common_steps}
 
@@ -19,42 +19,6 @@ loop-cursor-init c =
       walking_starts c.args.z c.args.img.now c.args.t c.args.j _ c.requires.slot.slot_in is (start-lt framed.valid _) _ c.start.ensures.0,
       (refl, omega arith),
     )
-
-pub returns-then-left-eq0 : goal.returns-then-left-eq0
-returns-then-left-eq0 c = (omega arith, λ l. absurd (omega arith))
-
-pub slot-other-requires : goal.slot-other-requires
-slot-other-requires c =
-    record {
-      tier = record { framed = c.requires.slot.tier.chains.framed; tier_in = c.requires.slot.tier.tier_in };
-      slot_in = c.loop-cursor.invariant.0.lt;
-    }
-
-pub same_hit-requires : goal.same_hit-requires
-same_hit-requires c =
-    record {
-      key = record {
-        slot = record {
-          tier = record { framed = c.requires.slot.tier.chains.framed; tier_in = c.requires.slot.tier.tier_in };
-          slot_in = c.requires.slot.slot_in;
-        };
-        fits = c.requires.fits;
-        lookup_is = c.slot_key-lookup.ensures ∙ ap (slot_key c.args.z.settings) c.slot.ensures ∙ sym c.requires.fits.hashed.lookup_agrees;
-      };
-      tier_in = c.requires.slot.tier.tier_in;
-    }
-
-pub returns-then-same_hit : goal.returns-then-same_hit
-returns-then-same_hit c = (omega arith, λ l. absurd (omega arith))
-
-pub returns-then-left-le-STEPS_OF_A_KEY : goal.returns-then-left-le-STEPS_OF_A_KEY
-returns-then-left-le-STEPS_OF_A_KEY c = (omega arith, λ l. absurd (omega arith))
-
-pub overflow_sub-left : goal.overflow_sub-left
-overflow_sub-left c = omega (arith, c.if-left-le-STEPS_OF_A_KEY.false)
-
-pub step-cursor-requires : goal.step-cursor-requires
-step-cursor-requires c = omega (arith, c.loop-cursor.invariant.0.lt, c.loop-cursor.invariant.1.0)
 
 pub loop-cursor-smaller : goal.loop-cursor-smaller
 loop-cursor-smaller c =
@@ -76,6 +40,3 @@ loop-cursor-preserved c =
           c.slot-other.ensures miss,
       (c.step-cursor.ensures.1 ∙ c.loop-cursor.invariant.1.0, omega (arith, c.loop-cursor.invariant.1.1, fewer)),
     )
-
-pub returns : goal.returns
-returns c = (c.loop-cursor.invariant.1.1, λ _. walking_ends c.args.z c.args.img.now c.args.t c.args.j _ c.loop-cursor.invariant.0 c.loop-cursor-test.false)

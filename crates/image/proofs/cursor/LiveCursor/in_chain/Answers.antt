@@ -23,8 +23,8 @@ returns-then-c-z c = (
   λ _. c.in_tier-c.ensures.1 c.if-c-z.true,
 )
 
-pub next_of-requires : goal.next_of-requires
-next_of-requires c = (c.requires.0, tier-met c.args.z c.args.img.now c.loop-c-test.true c.if-c-eq0.false c.in_tier-c.ensures.0)
+pub shared-requires : goal.shared-requires
+shared-requires c = (c.requires.0, tier-met c.args.z c.args.img.now c.loop-c-test.true c.if-c-eq0.false c.in_tier-c.ensures.0)
 
 pub overflow_sub-c : goal.overflow_sub-c
 overflow_sub-c c = omega (arith, c.in_tier-c.ensures.0.left_is, c.loop-c-test.true)
@@ -36,7 +36,7 @@ pub loop-c-preserved : goal.loop-c-preserved
 loop-c-preserved c =
     let some = still-left c.args.z c.args.img.now c.loop-c-test.true c.if-c-eq0.false c.in_tier-c.ensures.0 in
     let ne = still-tier c.args.z c.args.img.now c.loop-c-test.true c.if-c-eq0.false c.in_tier-c.ensures.0 in
-    let next = moves_next c.args.z c.args.img.now c.in_tier-c.ensures.0.moves.in_chain some ne c.if-c-z.false c.next_of.ensures in (
+    let next = moves_next c.args.z c.args.img.now c.in_tier-c.ensures.0.moves.in_chain some ne c.if-c-z.false c.shared.ensures in (
       moves_more c.args.z c.args.img.now (moves_more c.args.z c.args.img.now c.loop-c.invariant.0 c.in_tier-c.ensures.0.moves) next,
       c.in_tier-c.ensures.0.segment_is ∙ c.loop-c.invariant.1,
     )
