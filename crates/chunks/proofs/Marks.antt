@@ -8,8 +8,6 @@ use native.Mathlib.Omega.{arith}
 use native.Mathlib.Nat.{zero-add}
 use lib.Dec.{eqb}
 use borrow.Author.Tests.{eq-eqb, ne_eqb}
-use Rattle.std.specs.Prelude.{Option, Some, None}
-use Rattle.std.specs.Option.{MatchOption, unwrap_or}
 use Rattle.lists.specs.Cases.{lt-or, same_or}
 use Rattle.lists.specs.Lists.{span, below, first, those}
 use Rattle.lists.specs.Quantify.{Below}
@@ -63,25 +61,6 @@ module _ (z : Shape) (img : List ℕ) (t : ℕ) where
       let g : first (below z.settings.chunks) (clear z img t) ≡ mathlib.Core.Option.none =
       first-span-none (clear z img t) 0 z.settings.chunks (λ i l. rw zero-add (ne_eqb (mark z img t i) 0 (f i l))) in
       rw g
-
-  -- what the search for another mark gave, by the same chunks
-  module _ {b from : ℕ} (w : (from ≤ z.settings.chunks) × Below from (λ i. mark z img t i ≡ b)) where
-    pub other-found : (r : Option ℕ)
-        → MatchOption r ((k : ℕ) → from ≤ k → k < z.settings.chunks → mark z img t k ≡ b)
-        (λ i. (from ≤ i) × (i < z.settings.chunks) × (mark z img t i ≢ b) × ((k : ℕ) → from ≤ k → k < i → mark z img t k ≡ b))
-        → FirstOther z img t b (unwrap_or r z.settings.chunks)
-    other-found None f =
-        record {
-          within = omega arith;
-          before = λ i h. ⊎_elim (w.1 i) (λ l. f i l h) (lt-or i from);
-          ends = λ h. absurd (omega arith);
-        }
-    other-found (Some n) f =
-        record {
-          within = omega (arith, f.1);
-          before = λ i h. ⊎_elim (w.1 i) (λ l. f.3 i l h) (lt-or i from);
-          ends = λ _. f.2;
-        }
 
   pub lowest-other : {n : ℕ} → FirstOther z img t 1 n → n ≡ lowest_clear z img t
   lowest-other {n} f =

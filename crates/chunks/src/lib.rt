@@ -119,13 +119,18 @@ fn whole_bytes(z: Shape, img: &[u8], t: usize, b: u8) -> usize
 }
 
 // The lowest chunk of a tier whose mark is not b, or the number of chunks if none is.
+// A loop, for the reason that `slots_empty` gives. Inlined: a call copies the whole shape.
+#[inline(always)]
 fn lowest_other(z: Shape, img: &[u8], t: usize, b: u8) -> usize
     requires { FramedTier z img.now t × (b < 2) }
     ensures { FirstOther z img.now t b result }
 {
-    (whole_bytes(z, img, t, b)..z.settings.chunks)
-        .find(|&i| layout::read::mark(z, img, t, i) != b)
-        .unwrap_or(z.settings.chunks)
+    for i in whole_bytes(z, img, t, b)..z.settings.chunks {
+        if layout::read::mark(z, img, t, i) != b {
+            return i;
+        }
+    }
+    z.settings.chunks
 }
 
 // The lowest clear chunk of a tier, or the number of chunks if none is.
@@ -160,12 +165,17 @@ fn all_clear(z: Shape, img: &[u8], t: usize) -> bool
     lowest_other(z, img, t, 0) == z.settings.chunks
 }
 
-// Whether all slots of a tier are empty.
+// Whether all slots of a tier are empty. A loop: as an `all` of the range it computes the tier's offset, with its division, for each slot.
 fn slots_empty(z: Shape, img: &[u8], t: usize) -> bool
     requires { FramedTier z img.now t }
     ensures { Decides result (Below z.settings.slots (λ j. slot_at z img.now t j ≡ 0)) }
 {
-    (0..z.settings.slots).all(|j| layout::read::slot(z, img, t, j) == 0)
+    for j in 0..z.settings.slots {
+        if layout::read::slot(z, img, t, j) != 0 {
+            return false;
+        }
+    }
+    true
 }
 
 // Whether the tiers of the free chain hold nothing.
