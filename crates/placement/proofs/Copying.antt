@@ -1,15 +1,44 @@
--- An entry's bytes written part by part.
-use Prim.Native.Nat.{ℕ, ◌+◌, ◌≤◌}
+-- Bytes written one by one, and an entry's bytes written part by part.
+use Prim.Native.Nat.{ℕ, suc, ◌+◌, ◌≤◌, ◌<◌}
 use mathlib.Core.List.{List, ◌++◌}
-use mathlib.Core.Path.{◌≡◌, ◌∙◌}
+use mathlib.Core.Path.{◌≡◌, refl, ap, ap₂, sym, ◌∙◌}
 use native.Mathlib.Omega.{arith}
-use lib.ListN.{length, length-append}
-use lib.Seq.{sets}
+use native.Mathlib.Nat.{add-zero}
+use lib.ListN.{length, get_or, set, drop, length-append, length-set, drop_of_length-le}
+use lib.Seq.{sets, drop-cons}
 use Rattle.words.proofs.Bytes.{sets_then}
 use Rattle.settings.specs.declared.Settings.{Settings}
 use Rattle.leb128.specs.Leb128.{encode}
 use Rattle.entries.specs.Stored.{value_offset, entry_bytes}
 use Rattle.entries.proofs.Sizes.{length-entry}
+
+-- ---- the loop: what is left to write gives the same as the whole
+
+pub record Copying (l₀ : List ℕ) (at : ℕ) (bs l : List ℕ) (i : ℕ) : Type 0 where
+  pub low : i ≤ length bs
+  pub long : length l ≡ length l₀
+  pub is : sets l (at + i) (drop i bs) ≡ sets l₀ at bs
+
+pub copying_starts : (l : List ℕ) (at : ℕ) (bs : List ℕ) → Copying l at bs l 0
+copying_starts l at bs = record { low = omega arith; long = refl; is = ap (λ (k : ℕ). sets l k bs) (add-zero at) }
+
+module _ {l₀ : List ℕ} {at : ℕ} {bs l : List ℕ} {i : ℕ} (w : Copying l₀ at bs l i) where
+  pub copying_turns : i < length bs → Copying l₀ at bs (set l (at + i) (get_or bs i 0)) (i + 1)
+  copying_turns h =
+      let e : at + (i + 1) ≡ suc (at + i) = omega arith in
+      let f : i + 1 ≡ suc i = omega arith in
+      record {
+        low = omega arith;
+        long = length-set l (at + i) (get_or bs i 0) ∙ w.long;
+        is =
+            ap₂ (λ (k n : ℕ). sets (set l (at + i) (get_or bs i 0)) k (drop n bs)) e f ∙
+            sym (ap (sets l (at + i)) (drop-cons bs i 0 h)) ∙ w.is;
+      }
+
+  pub copying_ends : length bs ≤ i → l ≡ sets l₀ at bs
+  copying_ends h = sym (ap (sets l (at + i)) (drop_of_length-le bs h)) ∙ w.is
+
+-- ---- one part after the other
 
 module _ (st : Settings) (key value : List ℕ) where
   -- the four parts fit where the entry does

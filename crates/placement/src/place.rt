@@ -25,12 +25,14 @@ fn slot_for(z: Shape, img: &[u8], key: &[u8], lookup: u64, t: usize, slot: Optio
     }
 }
 
-// Writes bytes at an offset.
+// Writes bytes at an offset. A loop: `copy_from_slice` would be a call of memmove, which the library needs nowhere else.
 fn write_bytes(s: &mut [u8], at: usize, bytes: &[u8])
     requires { at + length bytes.now ≤ length s.old }
     ensures { s.new ≡ sets s.old at bytes.now }
 {
-    s[at..at + bytes.len()].copy_from_slice(bytes);
+    for i in 0..bytes.len() {
+        s[at + i] = bytes[i];
+    }
 }
 
 // Writes an entry's own bytes: key length, key, value length, value.
