@@ -5,12 +5,20 @@ use mathlib.Core.Path.{◌≡◌, refl}
 use mathlib.Core.Logic.{◌≢◌}
 use native.Mathlib.Omega.{arith}
 use lib.ListN.{length, length-append}
+use Rattle.lists.specs.Quantify.{Every}
+use Rattle.links.proofs.Runs.{run-positive}
+use Rattle.links.proofs.Follow.{run-follow}
 use Rattle.links.proofs.Along.{Along, along-starts, along-ends, along-out, along-splits, along_in, along-turns}
 use Rattle.layout.specs.declared.Shape.{Shape}
 use Rattle.layout.specs.Tiers.{tiers}
 use Rattle.chains.specs.Chains.{follow, chain, next_of}
 
 module _ (z : Shape) (img : List ℕ) (s : ℕ) where
+  -- no tier of it is 0
+  pub chain-positive : Every (chain z img s) (λ t. t ≢ 0)
+  unfolding chain
+  chain-positive = run-positive (run-follow (next_of z img) (tiers z) (suc s))
+
   -- k tiers were met, those of done, and the loop is at t
   pub record AlongChain (most : ℕ) (done : List ℕ) (t k : ℕ) : Type 0 where
     pub along : Along (next_of z img) (tiers z) (suc s) done t

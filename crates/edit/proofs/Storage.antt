@@ -30,7 +30,7 @@ use Rattle.placement.specs.Placement.{place_at}
 use Rattle.placement.proofs.Walking.{rest-asks}
 use Rattle.std.proofs.lemmas.Option.{none-some, IfSome_then}
 use Rattle.std.proofs.Common.{Option}
-use Rattle.placement.specs.OldEntry.{OtherTier}
+use Rattle.placement.specs.OldEntry.{IsOtherTier}
 use Rattle.placement.proofs.Before.{Places, is-tier, can-place}
 use Rattle.joining.specs.Joining.{join}
 use Rattle.joining.proofs.Ends.{new-tier, used-small}
@@ -127,8 +127,8 @@ module _ {z : Shape} {img key value : List ℕ} {n : ℕ} {p : EntryPlace} (w : 
     -- the slot is known in another tier than the old entry's, and there no slot was moved
     slot-known : KnownFor z img₁ t key p.slot
     slot-known j e =
-        let there : (j ≡ first_empty z img key t) × OtherTier old t = w.place_is.slot_is t c j f e in
-        there.0 ∙ sym (without-room z img sound key t (is-tier fits) (other-is z img sound key old old-of t (is-tier fits) there.1))
+        let there : (j ≡ first_empty z img key t) × IsOtherTier old t = w.place_is.slot_is t c j f e in
+        there.0 ∙ sym (without-room z img sound key t (is-tier fits) (other-is z img sound key old old-of t (is-tier fits) there.1.1))
 
     -- the counters have followed
     placed_at : placed_old z img old t c key value ≡ placed_image z img key value

@@ -13,7 +13,7 @@ use Rattle.layout.specs.declared.Shape.{Shape}
 use Rattle.layout.specs.Tiers.{tiers}
 use Rattle.layout.specs.Frame.{Framed}
 use Rattle.chains.specs.Chains.{chain, next_of}
-use Rattle.chains.proofs.Along.{AlongChain, chain-starts, chain_left, chain-ends, chain-out, chain-splits, chain_in, chain-turns}
+use Rattle.chains.proofs.Along.{AlongChain, chain-positive, chain-starts, chain_left, chain-ends, chain-out, chain-splits, chain_in, chain-turns}
 use Rattle.entries.specs.Keys.{segment_of}
 use Rattle.search.specs.declared.Sought.TheVariants.{Holds, Empty}
 use Rattle.search.specs.declared.Found.TheVariants.{At as FoundAt, Absent}
@@ -91,6 +91,10 @@ module _ (z : Shape) (img : List ℕ) where
         }
 
     module _ {most t k : ℕ} {x : Option Candidate} (w : Walking most t x k) where
+      -- a chain meets no 0
+      met-positive : Every w.done (λ u. u ≢ 0)
+      met-positive u m = chain-positive z img s u (rw (chain_left z img s w.along) (Memᴰ.append_left _ m))
+
       -- nothing is left, so no tier holds the key
       none-found : w.done ≡ chain z img s → None ≡ old_found z img (search z img key)
       unfolding search old_found
@@ -104,7 +108,7 @@ module _ (z : Shape) (img : List ℕ) where
           record {
             front = w.done;
             chain_is = sym e ∙ sym (append-nil w.done);
-            others = λ u m. tt;
+            others = λ u m. (met-positive u m, tt);
             candidate_is = w.candidate_is;
             old_is = none-found e;
           }
@@ -146,11 +150,14 @@ module _ (z : Shape) (img : List ℕ) where
               (record {
                 front = w.done;
                 chain_is = chain_left z img s w.along;
-                others = λ u m (q : u ≡ t).
-                    let e : (i : ℕ) × (sought_in z img key u ≡ Empty i) = w.empties u m in
-                    let both : Holds j ≡ Empty e.0 = sym f ∙ ap (sought_in z img key) (sym q) ∙ e.1 in
-                    let never : ◌≡◌ {A = ℕ} 0 1 = cc in
-                    omega arith;
+                others = λ u m. (
+                  met-positive u m,
+                  λ (q : u ≡ t).
+                      let e : (i : ℕ) × (sought_in z img key u ≡ Empty i) = w.empties u m in
+                      let both : Holds j ≡ Empty e.0 = sym f ∙ ap (sought_in z img key) (sym q) ∙ e.1 in
+                      let never : ◌≡◌ {A = ℕ} 0 1 = cc in
+                      omega arith,
+                );
                 candidate_is = w.candidate_is;
                 old_is = old-here;
               })
@@ -165,7 +172,7 @@ module _ (z : Shape) (img : List ℕ) where
       rest = rest_from z img w.old w.passed
 
       in_front : run d.front ≡ candidate_run w.candidate
-      in_front = run-others z img w.old d.front n d.others ∙ sym d.candidate_is.run_is
+      in_front = run-others z img w.old d.front n (λ u m. (d.others u m).1) ∙ sym d.candidate_is.run_is
 
       -- a tier that was passed takes it
       pub placed-passed : (x : Candidate) → w.candidate ≡ Some x

@@ -11,6 +11,10 @@ use Rattle.placement.specs.declared.Old.{Old}
 abbrev pub OtherTier : Option Old → ℕ → Type 0
 OtherTier old t = IfSome old (λ o. t ≢ o.tier)
 
+-- t is not 0, and not its tier
+abbrev pub IsOtherTier : Option Old → ℕ → Type 0
+IsOtherTier old t = (t ≢ 0) × OtherTier old t
+
 module _ (z : Shape) (img : List ℕ) where
   -- the entry of slot j of tier t
   abbrev pub old_at : ℕ → ℕ → Old

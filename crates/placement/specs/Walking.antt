@@ -10,7 +10,7 @@ use Rattle.placement.specs.declared.Run.TheVariants.{At, Nowhere}
 use Rattle.placement.specs.declared.walk.Candidate.{Candidate}
 use Rattle.placement.specs.declared.walk.Walk.{Walk}
 use Rattle.placement.specs.declared.walk.EntryPlace.{EntryPlace}
-use Rattle.placement.specs.OldEntry.{OtherTier, old_found}
+use Rattle.placement.specs.OldEntry.{IsOtherTier, old_found}
 use Rattle.placement.specs.Runs.{first_run, run_for, full_but, clear_but}
 use Rattle.placement.specs.Asking.{rest_from}
 
@@ -34,7 +34,7 @@ module _ (z : Shape) (img : List ℕ) where
     pub record Walked (w : Walk) : Type 0 where
       pub front : List ℕ
       pub chain_is : chain z img (segment_of z.settings key) ≡ front ++ rest_from z img w.old w.passed
-      pub others : Every front (OtherTier w.old)
+      pub others : Every front (IsOtherTier w.old)
       pub candidate_is : CandidateIn key n front w.candidate
       pub old_is : w.old ≡ old_found z img (search z img key)
 
@@ -42,7 +42,7 @@ module _ (z : Shape) (img : List ℕ) where
     pub record PlaceIs (p : EntryPlace) : Type 0 where
       pub old_is : p.old ≡ old_found z img (search z img key)
       pub run_is : p.run ≡ first_run z (full_but z img p.old) (clear_but z img p.old) (chain z img (segment_of z.settings key)) n
-      pub slot_is : (t c j : ℕ) → p.run ≡ At t c → p.slot ≡ Some j → (j ≡ first_empty z img key t) × OtherTier p.old t
+      pub slot_is : (t c j : ℕ) → p.run ≡ At t c → p.slot ≡ Some j → (j ≡ first_empty z img key t) × IsOtherTier p.old t
 
   -- the place, after a walk for any key
   abbrev pub PlaceAfter : ℕ → Walk → EntryPlace → Type 0
