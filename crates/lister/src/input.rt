@@ -72,7 +72,7 @@ pub fn reading(read: &[u8], ended: bool) -> Result<Input, Stage>
     if read.len() < settings::HEAD_SIZE {
         return missing(Stage::Block, settings::HEAD_SIZE, ended);
     }
-    let Some(fields) = settings::fields_of(read[2]) else {
+    let Some(fields) = settings::known_fields(read[2]) else {
         return Err(Stage::Block);
     };
     let end = settings::block_size(fields);

@@ -55,14 +55,22 @@ pub const LARGEST_CHUNK: usize = 4096;
 
 pub const LARGEST_INNER: usize = 4096;
 
-// The table of versions: the fields of each; nothing for a version that is not known.
-pub fn fields_of(version: u8) -> Option<usize>
-    ensures { MatchOption result (0 ≡ fields_of version) (λ n. (n ≡ fields_of version) × (0 < n) × (n ≤ most_fields)) }
+// The table of versions: the fields of each; 0 for a version that is not known.
+pub fn fields_of(version: u8) -> usize
+    ensures { (result ≡ fields_of version) × (result ≤ most_fields) }
 {
     match version {
-        1 => Some(17),
-        _ => None,
+        1 => 17,
+        _ => 0,
     }
+}
+
+// The same, and nothing for a version that is not known.
+pub fn known_fields(version: u8) -> Option<usize>
+    ensures { MatchOption result (0 ≡ fields_of version) (λ n. (n ≡ fields_of version) × (0 < n) × (n ≤ most_fields)) }
+{
+    let fields = fields_of(version);
+    if fields == 0 { None } else { Some(fields) }
 }
 
 // The bytes of a block with so many fields.
@@ -79,7 +87,7 @@ fn block_fits(block: &[u8]) -> bool
     if block.len() < HEAD_SIZE {
         return false;
     }
-    let Some(fields) = fields_of(block[2]) else {
+    let Some(fields) = known_fields(block[2]) else {
         return false;
     };
     if block.len() != block_size(fields) {

@@ -12,10 +12,10 @@ returns-then-read-lt-HEAD_SIZE c = c.missing.ensures ∙ sym (needed-short _ hea
 
 pub returns-in_default : goal.returns-in_default
 returns-in_default c =
-    version-unknown _ _ c.if-read-lt-HEAD_SIZE.false (MatchOption-at_none _ _ c.in_default.is c.fields_of.ensures) refl
+    version-unknown _ _ c.if-read-lt-HEAD_SIZE.false (MatchOption-at_none _ _ c.in_default.is c.known_fields.ensures) refl
 
 pub returns : goal.returns
 returns c =
-    let known = MatchOption-at_some _ _ _ c.in-Some.is c.fields_of.ensures in
+    let known = MatchOption-at_some _ _ _ c.in-Some.is c.known_fields.ensures in
     c.reading_block.ensures
     ∙ version-known _ _ c.if-read-lt-HEAD_SIZE.false known.0 c.block_size-end.ensures (λ e. omega (arith, known.1))
