@@ -6,30 +6,30 @@ ghost use Rattle.image.specs.List.{row_numbers as list_row_numbers};
 use crate::Stage;
 use entries::Live;
 
-// The number of a refusal.
+// The number of a refusal. A function with a name of its own, which docs/TRACE.md has.
+pub fn stage_number(stage: Stage) -> u32
+    ensures { result ≡ check_stage_number stage }
+{
+    match stage {
+        Stage::Block => 2,
+        Stage::Field => 3,
+        Stage::Frame => 4,
+        Stage::Chains => 5,
+        Stage::Entries => 6,
+        Stage::Chunks => 7,
+        Stage::Key => 8,
+        Stage::Value => 9,
+        Stage::Walk => 18,
+    }
+}
+
+// The same as a conversion, for exports and programs.
 impl From<Stage> for u32 {
     ghost from_gives = { λ stage number. number ≡ check_stage_number stage };
 
     fn from(stage: Stage) -> u32 {
-        match stage {
-            Stage::Block => 2,
-            Stage::Field => 3,
-            Stage::Frame => 4,
-            Stage::Chains => 5,
-            Stage::Entries => 6,
-            Stage::Chunks => 7,
-            Stage::Key => 8,
-            Stage::Value => 9,
-            Stage::Walk => 18,
-        }
+        stage_number(stage)
     }
-}
-
-// The same by a name of its own, which docs/TRACE.md has.
-pub fn stage_number(stage: Stage) -> u32
-    ensures { result ≡ check_stage_number stage }
-{
-    u32::from(stage)
 }
 
 // The seven numbers of an entry's line.
