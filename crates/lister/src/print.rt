@@ -7,7 +7,10 @@ use std::io;
 use text::Line;
 
 pub fn line(rt: &impl Print, l: Line) -> io::Result<()> {
-    rt.write_all(l.text.as_slice())
+    let bytes = l.bytes;
+    // `min`, so that nothing is asked of callers
+    let n = l.len.min(bytes.len());
+    rt.write_all(&bytes[..n])
 }
 
 fn refusal_line(stage: Stage) -> Line

@@ -5,13 +5,18 @@ use mathlib.Core.Path.{◌≡◌, ap, sym, ◌∙◌}
 use native.Mathlib.Omega.{arith}
 use native.Mathlib.Nat.{mul-suc}
 use native.Mathlib.Numerals.{add-one}
-use lib.ListN.{length, get_or, take, drop, length-append}
-use lib.Seq.{take_all}
+use lib.ListN.{length, get_or, set, take, drop, length-append, length-take}
+use lib.Seq.{take-suc-set, take_all}
 use Rattle.lists.proofs.Lists.{flat_map_take-more}
 use Rattle.text.specs.declared.line.Line.{Line}
 use Rattle.text.specs.Text.{decimal, spaced, ended}
 use Rattle.text.specs.Lines.{line}
-use Rattle.text.specs.Line.{text_of, length_of, LengthFits, Added, AddedWithin, Reads}
+use Rattle.text.specs.Line.{text_of, Added, AddedWithin, Reads}
+
+-- a byte put at the end
+pub added-byte : (l : Line) (b : ℕ) → l.len < length l.bytes
+    → Added l (b ∷ []) (record { bytes = set l.bytes l.len b; len = l.len + 1 })
+added-byte l b h = record { text = rw add-one (take-suc-set l.bytes l.len b h); len = omega arith }
 
 pub added_then : {l m r : Line} {s t : List ℕ} → Added l s m → Added m t r → Added l (s ++ t) r
 added_then {l} {m} {r} {s} {t} a b = record {
@@ -26,15 +31,18 @@ added_as e a = rw e at a
 pub added-within : {n : ℕ} {l r : Line} {s : List ℕ} → Added l s r → length s ≤ n → AddedWithin n l s r
 added-within a h = record { added = a; within = omega (arith, a.len) }
 
-pub added-reads : {l r : Line} {s : List ℕ} → (text_of l ≡ []) × (length_of l ≡ 0) → Added l s r → LengthFits r → Reads s r
-added-reads {l} {r} {s} h a f = record { text = a.text ∙ ap (λ (x : List ℕ). x ++ s) h.0; length_fits = f }
+pub added-reads : {l r : Line} {s : List ℕ} → (text_of l ≡ []) × (l.len ≡ 0) → Added l s r → Reads s r
+added-reads {l} {r} {s} h a =
+    let e : text_of r ≡ s = a.text ∙ ap (λ (x : List ℕ). x ++ s) h.0 in
+    let n : r.len ≡ length (text_of r) = omega (arith, ap length e, a.len) in
+    record { text = e; length_fits = (omega (arith, length-take r.len r.bytes), n) }
 
 -- ---- a loop that adds a piece of at most k bytes for each element
 
 pub record Adding (f : ℕ → List ℕ) (k : ℕ) (xs : List ℕ) (l₀ l : Line) (i : ℕ) : Type 0 where
   pub far : i ≤ length xs
   pub added : Added l₀ (flat_map f (take i xs)) l
-  pub within : length_of l ≤ length_of l₀ + k * i
+  pub within : l.len ≤ l₀.len + k * i
 
 module _ {f : ℕ → List ℕ} {k : ℕ} {xs : List ℕ} {l₀ : Line} where
   pub add-starts : Adding f k xs l₀ l₀ 0

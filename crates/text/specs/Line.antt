@@ -1,19 +1,14 @@
 -- A line that is being written.
-use Rattle.std.specs.Prelude.{ℕ, ◌+◌, ◌≤◌, ◌≡◌, List, ◌++◌, length}
-use Rattle.arrayvec.specs.ArrayVec.{array_vec_len}
+use Rattle.std.specs.Prelude.{ℕ, ◌+◌, ◌≤◌, ◌≡◌, List, ◌++◌, length, take}
 use Rattle.text.specs.declared.line.Line.{Line}
 
 -- what stands in it so far
 abbrev pub text_of : Line → List ℕ
-text_of l = l.text.items
+text_of l = take l.len l.bytes
 
--- how many bytes that are
-abbrev pub length_of : Line → ℕ
-length_of l = array_vec_len l.text
-
--- they lie within the 160 that it has room for
+-- its length lies within its bytes. The second part follows from the first: with both, `&bytes[..len]` asks no proof
 abbrev pub LengthFits : Line → Type 0
-LengthFits l = length_of l ≤ 160
+LengthFits l = (l.len ≤ length l.bytes) × (l.len ≡ length (text_of l))
 
 -- s is what stands in it
 pub record Reads (s : List ℕ) (l : Line) : Type 0 where
@@ -24,14 +19,14 @@ pub record Reads (s : List ℕ) (l : Line) : Type 0 where
 
 -- there is room for n bytes more
 abbrev pub Room : ℕ → Line → Type 0
-Room n l = length_of l + n ≤ 160
+Room n l = l.len + n ≤ 160
 
 -- r is l with s after it
 pub record Added (l : Line) (s : List ℕ) (r : Line) : Type 0 where
   pub text : text_of r ≡ text_of l ++ s
-  pub len : length_of r ≡ length_of l + length s
+  pub len : r.len ≡ l.len + length s
 
 -- the same, and s has at most n bytes
 pub record AddedWithin (n : ℕ) (l : Line) (s : List ℕ) (r : Line) : Type 0 where
   pub added : Added l s r
-  pub within : length_of r ≤ length_of l + n
+  pub within : r.len ≤ l.len + n

@@ -1,4 +1,4 @@
-// The lines that the lister prints, each made whole in a buffer of its own.
+// The lines that the programs print, each made whole in a buffer of its own.
 #![tactic(auto)]
 
 mod line;

@@ -1,21 +1,22 @@
 // A line that is being written, by value.
 ghost use Rattle.std.specs.Prelude.{[], ◌∷◌, ◌++◌, ◌≡◌, ◌+◌, ◌*◌, length};
 ghost use Rattle.text.specs.Text.{decimal, spaced};
-ghost use Rattle.text.specs.Line.{text_of, length_of, Room, Added, AddedWithin};
+ghost use Rattle.text.specs.Line.{text_of, Room, Added, AddedWithin};
 
-use arrayvec::ArrayVec;
-
-// Seven numbers of 20 digits fit.
+// The first len of its bytes are written. Seven numbers of 20 digits fit. An array with its length, since a crate for vectors of fixed size
+// would be one more to trust.
 #[derive(Drop)]
 pub struct Line {
-    pub text: ArrayVec<u8, 160>,
+    pub bytes: [u8; 160],
+    pub len: usize,
 }
 
 pub(crate) fn start() -> Line
-    ensures { (text_of result ≡ []) × (length_of result ≡ 0) }
+    ensures { (text_of result ≡ []) × (result.len ≡ 0) }
 {
     Line {
-        text: ArrayVec::new(),
+        bytes: [0; 160],
+        len: 0,
     }
 }
 
@@ -24,16 +25,21 @@ impl Line {
         requires { Room 1 self }
         ensures { Added self (b ∷ []) result }
     {
-        self.text.push(b);
+        let at = self.len;
+        self.bytes[at] = b;
+        self.len = at + 1;
         self
     }
 
-    pub(crate) fn put_word(mut self, w: &[u8]) -> Line
+    pub(crate) fn put_word(self, w: &[u8]) -> Line
         requires { Room (length w.now) self }
         ensures { Added self w.now result }
     {
-        self.text.try_extend_from_slice(w).unwrap();
-        self
+        let mut l = self;
+        for b in w {
+            l = l.put_byte(*b);
+        }
+        l
     }
 
     // A number has at most 20 digits.
