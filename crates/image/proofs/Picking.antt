@@ -1,25 +1,19 @@
 -- The n-th of the live entries: the next one of a cursor that has n to pass over.
 use Prim.Native.Nat.{ℕ, suc, ◌+◌, ◌<◌}
 use mathlib.Core.List.{List, [], ◌∷◌, ◌++◌}
-use mathlib.Core.Path.{◌≡◌, refl, ap, sym, ◌∙◌}
+use mathlib.Core.Path.{◌≡◌, ap, sym, ◌∙◌}
 use native.Mathlib.Omega.{arith}
 use lib.ListN.{length}
-use Rattle.std.specs.Prelude.{Result, Ok, Err}
-use Rattle.std.specs.Result.{result_ok}
+use Rattle.std.specs.Prelude.{Ok, Err}
 use Rattle.layout.specs.declared.Shape.{Shape}
 use Rattle.entries.specs.declared.Live.{Live}
 use Rattle.entries.specs.Live.{live_at, live}
 use Rattle.search.specs.Search.{ChainTiers}
 use Rattle.image.specs.declared.cursor.LiveCursor.{LiveCursor}
-use Rattle.image.specs.List.{pick, from_nth}
+use Rattle.image.specs.List.{pick}
 use Rattle.image.specs.Cursor.{start_of, ahead, InChain}
 use Rattle.image.specs.Moving.{OnFull, Moves}
 use Rattle.image.proofs.Rest.{start_in, start-all, ahead-cons}
-
-pub from_nth-ok : (r : Result Live ℕ) → Ok (result_ok r) ≡ from_nth r
-unfolding from_nth
-from_nth-ok (Ok e) = refl
-from_nth-ok (Err n) = refl
 
 pick-passed : (ps es : List Live) (n : ℕ) → pick (ps ++ es) (length ps + n) ≡ pick es n
 unfolding pick

@@ -27,5 +27,9 @@ pub fn entry(block: &[u8], img: &[u8], n: usize) -> Result<Option<Live>, Stage>
     ensures { result ≡ list_entry block.now img.now n }
 {
     let (z, _) = super::examine(block, img)?;
-    Ok(nth(z, img, n).ok())
+    // a `match`, so that the must-fail edit past_refused changes one arm
+    match nth(z, img, n) {
+        Ok(e) => Ok(Some(e)),
+        Err(_) => Ok(None),
+    }
 }

@@ -115,7 +115,9 @@ pub fn walk(z: Shape, img: &[u8], key: &[u8], h: u64) -> Result<WalkEnd, Broken>
     let lookup = entries::keys::lookup_of_hash(z.settings, h);
     let most = layout::tier_count(z);
     let mut t = entries::keys::segment_of_hash(z.settings, h) + 1;
-    for _ in 0..most {
+    // A `while` and no `for`, so that the edit no_bound_on_the_tiers can take the bound away.
+    let mut tiers = most;
+    while 0 < tiers {
         let slot = match in_tier(z, img, key, lookup, t)? {
             TierMet::Holds(j, e) => return Ok(WalkEnd::Found(t, j, e)),
             TierMet::Empty(j) => j,
@@ -131,6 +133,7 @@ pub fn walk(z: Shape, img: &[u8], key: &[u8], h: u64) -> Result<WalkEnd, Broken>
             return Err(Broken);
         }
         t = next;
+        tiers -= 1;
     }
     Err(Broken)
 }
